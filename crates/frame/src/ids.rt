@@ -1,0 +1,9 @@
+// The numbers of joints and of bars, as two types that cannot be mixed.
+
+// The number of a joint, from 0.
+#[derive(Clone, Copy, PartialEq, Eq, Debug)]
+pub struct JointId(pub u16);
+
+// The number of a bar, from 0.
+#[derive(Clone, Copy, PartialEq, Eq, Debug)]
+pub struct BarId(pub u32);

@@ -1,0 +1,2 @@
+// Frames of joints and bars.
+pub mod ids;
