@@ -1,2 +1,4 @@
 // Frames of joints and bars.
 pub mod ids;
+pub mod joint_set;
+pub mod laws;

@@ -1,0 +1,5 @@
+pub mod Counts
+pub mod First
+pub mod Words
+pub mod Among
+pub mod Appended
