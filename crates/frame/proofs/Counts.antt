@@ -5,10 +5,16 @@ use mathlib.Core.Logic.{⊎-elim}
 use Prim.Native.Nat.{ℕ, zero, suc, _+_, _*_, _≤_, _<_}
 use native.Mathlib.Omega.{arith}
 use native.Mathlib.Nat.{add-zero, add-suc, mul-add, mul-zero, zero-mul}
+use native.Mathlib.Numerals.{add-one}
 use lib.Dec.{eqb}
 use Rattle.std.proofs.shelf.Tests.{cases-bool, cases-eq, cases-order, and-parts, cond-true, cond-false, ne-eqb}
 use Rattle.std.proofs.shelf.Ways.{tells}
 use Rattle.frame.specs.Sets.{Set, count, also, less, both, either}
+
+-- one number more to count, which is in the set or not: the step of a loop
+pub count-step : (n : ℕ) (s : Set) (b : Bool) → b ≡ s n → count (n + 1) s ≡ count n s + cond b 1 0
+unfolding count
+count-step n s b h = rw (add-one n, h) (omega arith)
 
 -- a set within another has no more numbers
 pub count-le : (n : ℕ) (s t : Set) → ((k : ℕ) → k < n → s k ≡ true → t k ≡ true) → count n s ≤ count n t

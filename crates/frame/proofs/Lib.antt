@@ -3,3 +3,4 @@ pub mod First
 pub mod Words
 pub mod Among
 pub mod Appended
+pub mod Frames

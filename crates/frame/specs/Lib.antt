@@ -2,3 +2,5 @@ pub mod Sets
 pub mod Frame
 pub mod Laws
 pub mod Words
+pub mod Refusals
+pub mod Lent

@@ -7,6 +7,7 @@ ghost use Rattle.std.specs.Orderings.{Decides};
 ghost use Rattle.std.specs.Options.{mapped};
 ghost use Rattle.frame.specs.Sets.{none, below, also, less, both, either, Within, count, first};
 ghost use Rattle.frame.specs.Words.{bits, members};
+use crate::ids::Ends;
 use crate::ids::JointId;
 
 // A set of joints below 512.
@@ -44,6 +45,13 @@ impl JointSet {
             return false;
         }
         self.words[word] >> (joint.0 % 64) & 1 == 1
+    }
+
+    // Whether both ends of a bar are in the set.
+    pub fn contains_both(&self, ends: Ends) -> bool
+        ensures { λ r. ⌜ r ≡ (members (now (self .entry)) (ends .one .0) && members (now (self .entry)) (ends .two .0)) ⌝ }
+    {
+        self.contains(ends.one) && self.contains(ends.two)
     }
 
     // Puts a joint in, and says whether the set has changed: not where the joint was in, and not where it is past 511.

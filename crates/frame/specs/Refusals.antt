@@ -1,0 +1,90 @@
+-- What is turned away: the number and the place of each refusal, and the rows by which lent numbers are judged.
+-- Assumes nothing: these are definitions.
+use mathlib.Core.Path.{_≡_}
+use mathlib.Core.Bool.{Bool, not, _||_}
+use mathlib.Core.List.{List, [], _∷_}
+use Prim.Native.Nat.{ℕ, _+_, _*_, _/_, _%_}
+use lib.Dec.{ltb, leb, eqb}
+use lib.ListN.{length, getD}
+use Rattle.std.specs.declared.option.Option.{Option}
+use Rattle.std.specs.declared.option.Option.the-variants.{Some, None}
+use Rattle.std.specs.declared.result.Result.{Result}
+use Rattle.std.specs.declared.result.Result.the-variants.{Ok, Err}
+use Rattle.std.specs.Options.{orOther, whenTrue, mapped}
+use Rattle.frame.specs.Sets.{first}
+use Rattle.frame.specs.declared.refusal.Lent.{Lent}
+use Rattle.frame.specs.declared.refusal.Lent.the-variants.{Marks, Room}
+use Rattle.frame.specs.declared.refusal.Refusal.{Refusal}
+use Rattle.frame.specs.declared.refusal.Refusal.the-variants.{JointCount, BarNumbers, JointPast, EqualEnds, Length, Mark, List as Listed, Groups, NoSuchBar, SmallGroup}
+
+-- the number of a refusal's row
+abbrev pub number : Refusal → ℕ
+number JointCount = 1
+number (BarNumbers n) = 2
+number (JointPast k) = 3
+number (EqualEnds k) = 4
+number (Length which) = 5
+number (Mark k) = 6
+number (Listed k) = 7
+number (Groups n) = 8
+number (NoSuchBar k) = 9
+number SmallGroup = 10
+
+-- which of the lent numbers have the wrong length
+abbrev pub which : Lent → ℕ
+which Marks = 0
+which Room = 1
+
+-- the place that a refusal names
+abbrev pub place : Refusal → ℕ
+place JointCount = 0
+place (BarNumbers n) = n
+place (JointPast k) = k
+place (EqualEnds k) = k .0
+place (Length l) = which l
+place (Mark k) = k
+place (Listed k) = k
+place (Groups n) = n
+place (NoSuchBar k) = k .0
+place SmallGroup = 0
+
+-- the first row that applies is the answer
+abbrev pub first-of : List (Option Refusal) → Option Refusal
+first-of [] = None
+first-of (row ∷ rows) = orOther row (first-of rows)
+
+-- what a judge of one or more rows answers: nothing, or the refusal
+abbrev pub Judged : Result (Unit {0}) Refusal → Option Refusal → Type 0
+Judged (Ok _) row = row ≡ None
+Judged (Err e) row = row ≡ Some e
+
+-- 1: fewer than 2 joints, or more than 512
+abbrev pub joints-row : ℕ → Option Refusal
+joints-row joints = whenTrue (ltb joints 2 || ltb 512 joints) JointCount
+
+-- 2: numbers of bars that are not two for each bar, or more than 2,048 bars
+abbrev pub numbers-row : List ℕ → Option Refusal
+numbers-row bars = whenTrue (eqb (length bars % 2) 1 || ltb 2048 (length bars / 2)) (BarNumbers (length bars))
+
+-- 3: a joint past the frame, the first
+abbrev pub ends-row : ℕ → List ℕ → Option Refusal
+ends-row joints bars = mapped JointPast (first (length bars) (λ k. leb joints (getD bars k 0)))
+
+-- 4: a bar with twice the same joint, the first
+abbrev pub apart-row : List ℕ → Option Refusal
+apart-row bars = mapped (λ k. EqualEnds (record { 0 = k })) (first (length bars / 2) (λ k. eqb (getD bars (2 * k) 0) (getD bars (2 * k + 1) 0)))
+
+-- 5: marks or room of another length than they should have
+abbrev pub length-row : Lent → (has wanted : ℕ) → Option Refusal
+length-row lent has wanted = whenTrue (not (eqb has wanted)) (Length lent)
+
+-- 6: a mark that is neither 0 nor 1, the first
+abbrev pub marks-row : List ℕ → Option Refusal
+marks-row marks = mapped Mark (first (length marks) (λ k. ltb 1 (getD marks k 0)))
+
+-- the rows that judge a frame, and those that judge the marks of a set of its bars
+abbrev pub frame-rows : ℕ → List ℕ → List (Option Refusal)
+frame-rows joints bars = joints-row joints ∷ (numbers-row bars ∷ (ends-row joints bars ∷ (apart-row bars ∷ [])))
+
+abbrev pub set-rows : (bars : ℕ) → List ℕ → List (Option Refusal)
+set-rows bars marks = length-row Marks (length marks) bars ∷ (marks-row marks ∷ [])

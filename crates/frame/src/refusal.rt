@@ -1,0 +1,74 @@
+// Why lent numbers are turned away.
+ghost use mathlib.Core.Path.{_≡_};
+ghost use Rattle.frame.specs.Refusals.{number, place};
+use crate::ids::BarId;
+use crate::ids::BarIdDebug;
+use crate::ids::BarIdPartialEq;
+
+// Which of the lent numbers have the wrong length.
+#[derive(Clone, Copy, PartialEq, Eq, Debug)]
+pub enum Lent {
+    Marks,
+    Room,
+}
+
+// A refusal. The cases stand in the order in which the rows are judged; each has a number and names a place.
+#[derive(Clone, Copy, PartialEq, Eq, Debug)]
+pub enum Refusal {
+    // 1: fewer than 2 joints, or more than 512.
+    JointCount,
+    // 2: numbers of bars that are not two for each bar, or more than 2,048 bars; the length.
+    BarNumbers(usize),
+    // 3: a joint past the frame; its place.
+    JointPast(usize),
+    // 4: a bar with twice the same joint; the bar.
+    EqualEnds(BarId),
+    // 5: marks or room of another length than they should have; 0 for marks, 1 for room.
+    Length(Lent),
+    // 6: a mark that is neither 0 nor 1; its place.
+    Mark(usize),
+    // 7: a list of another length, or with a number above 1; its length, or the place.
+    List(usize),
+    // 8: more than 1,024 groups, or numbers that are not one mark a joint for each; their length.
+    Groups(usize),
+    // 9: a bar asked for that is past the frame or not in the set; the bar.
+    NoSuchBar(BarId),
+    // 10: a group to ask for with fewer than two joints.
+    SmallGroup,
+}
+
+impl Refusal {
+    // The number of the row.
+    pub fn number(&self) -> u64
+        ensures { λ r. ⌜ r ≡ number (now (self .entry)) ⌝ }
+    {
+        match self {
+            Refusal::JointCount => 1,
+            Refusal::BarNumbers(_) => 2,
+            Refusal::JointPast(_) => 3,
+            Refusal::EqualEnds(_) => 4,
+            Refusal::Length(_) => 5,
+            Refusal::Mark(_) => 6,
+            Refusal::List(_) => 7,
+            Refusal::Groups(_) => 8,
+            Refusal::NoSuchBar(_) => 9,
+            Refusal::SmallGroup => 10,
+        }
+    }
+
+    // The place in the lent numbers, from 0.
+    pub fn place(&self) -> u64
+        ensures { λ r. ⌜ r ≡ place (now (self .entry)) ⌝ }
+    {
+        match *self {
+            Refusal::JointCount | Refusal::SmallGroup | Refusal::Length(Lent::Marks) => 0,
+            Refusal::Length(Lent::Room) => 1,
+            Refusal::EqualEnds(bar) | Refusal::NoSuchBar(bar) => bar.0 as u64,
+            Refusal::BarNumbers(at)
+            | Refusal::JointPast(at)
+            | Refusal::Mark(at)
+            | Refusal::List(at)
+            | Refusal::Groups(at) => at as u64,
+        }
+    }
+}

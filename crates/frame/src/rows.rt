@@ -1,0 +1,26 @@
+// Rows by which marks and room are judged, each by a function of its own. `?` joins them: the first that applies is the answer.
+ghost use Rattle.frame.specs.Refusals.{Judged, length-row, marks-row};
+use crate::refusal::Lent;
+use crate::refusal::Refusal;
+
+// Row 5: marks or room of another length than they should have.
+pub fn judge_length(lent: Lent, has: usize, wanted: usize) -> Result<(), Refusal>
+    ensures { λ r. ⌜ Judged r (length-row lent has wanted) ⌝ }
+{
+    if has != wanted {
+        return Err(Refusal::Length(lent));
+    }
+    Ok(())
+}
+
+// Row 6: a mark that is neither 0 nor 1, the first.
+pub fn judge_marks(marks: &[u8]) -> Result<(), Refusal>
+    ensures { λ r. ⌜ Judged r (marks-row (now (marks .entry))) ⌝ }
+{
+    for (k, mark) in marks.iter().enumerate() {
+        if *mark > 1 {
+            return Err(Refusal::Mark(k));
+        }
+    }
+    Ok(())
+}
