@@ -14,7 +14,7 @@ use Rattle.std.specs.declared.option.Option.the-variants.{Some, None}
 use Rattle.std.specs.Options.{mapped, orOther, whenTrue}
 use Rattle.frame.specs.Sets.{Set, first}
 use Rattle.frame.specs.Frame.{no-bar, among}
-use Rattle.frame.specs.Lent.{bars-in, frame-in, Allowed}
+use Rattle.frame.specs.Views.{bars-in, frame-in, Allowed}
 use Rattle.frame.specs.Refusals.{first-of, joints-row, numbers-row, ends-row, apart-row, frame-rows}
 use Rattle.frame.proofs.First.{none-first}
 

@@ -3,4 +3,4 @@ pub mod Frame
 pub mod Laws
 pub mod Words
 pub mod Refusals
-pub mod Lent
+pub mod Views

@@ -15,7 +15,7 @@ use Rattle.frame.specs.Sets.{first}
 use Rattle.frame.specs.declared.refusal.Lent.{Lent}
 use Rattle.frame.specs.declared.refusal.Lent.the-variants.{Marks, Room}
 use Rattle.frame.specs.declared.refusal.Refusal.{Refusal}
-use Rattle.frame.specs.declared.refusal.Refusal.the-variants.{JointCount, BarNumbers, JointPast, EqualEnds, Length, Mark, List as Listed, Groups, NoSuchBar, SmallGroup}
+use Rattle.frame.specs.declared.refusal.Refusal.the-variants.{JointCount, BarNumbers, JointPast, EqualEnds, Length, Mark, ListNumbers, GroupNumbers, NoSuchBar, SmallGroup}
 
 -- the number of a refusal's row
 abbrev pub number : Refusal → ℕ
@@ -25,8 +25,8 @@ number (JointPast k) = 3
 number (EqualEnds k) = 4
 number (Length which) = 5
 number (Mark k) = 6
-number (Listed k) = 7
-number (Groups n) = 8
+number (ListNumbers k) = 7
+number (GroupNumbers n) = 8
 number (NoSuchBar k) = 9
 number SmallGroup = 10
 
@@ -43,8 +43,8 @@ place (JointPast k) = k
 place (EqualEnds k) = k .0
 place (Length l) = which l
 place (Mark k) = k
-place (Listed k) = k
-place (Groups n) = n
+place (ListNumbers k) = k
+place (GroupNumbers n) = n
 place (NoSuchBar k) = k .0
 place SmallGroup = 0
 

@@ -28,9 +28,9 @@ pub enum Refusal {
     // 6: a mark that is neither 0 nor 1; its place.
     Mark(usize),
     // 7: a list of another length, or with a number above 1; its length, or the place.
-    List(usize),
+    ListNumbers(usize),
     // 8: more than 1,024 groups, or numbers that are not one mark a joint for each; their length.
-    Groups(usize),
+    GroupNumbers(usize),
     // 9: a bar asked for that is past the frame or not in the set; the bar.
     NoSuchBar(BarId),
     // 10: a group to ask for with fewer than two joints.
@@ -49,8 +49,8 @@ impl Refusal {
             Refusal::EqualEnds(_) => 4,
             Refusal::Length(_) => 5,
             Refusal::Mark(_) => 6,
-            Refusal::List(_) => 7,
-            Refusal::Groups(_) => 8,
+            Refusal::ListNumbers(_) => 7,
+            Refusal::GroupNumbers(_) => 8,
             Refusal::NoSuchBar(_) => 9,
             Refusal::SmallGroup => 10,
         }
@@ -67,8 +67,8 @@ impl Refusal {
             Refusal::BarNumbers(at)
             | Refusal::JointPast(at)
             | Refusal::Mark(at)
-            | Refusal::List(at)
-            | Refusal::Groups(at) => at as u64,
+            | Refusal::ListNumbers(at)
+            | Refusal::GroupNumbers(at) => at as u64,
         }
     }
 }

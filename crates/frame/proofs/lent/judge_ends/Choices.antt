@@ -1,9 +1,0 @@
-use mathlib.Core.Path.{_≡_}
-use mathlib.Core.Bool.{false}
-use Prim.Native.Nat.{ℕ, _<_}
-use lib.Dec.{leb}
-use lib.ListN.{getD}
-use Rattle.frame.proofs.lent.«judge_ends».Given as given
-
-abbrev pub Inv-loop-k : given.InvT-loop-k
-Inv-loop-k l = (i : ℕ) → i < l .k → leb (l .joints) (getD (l .bars) i 0) ≡ false

@@ -1,0 +1,17 @@
+use mathlib.Core.Path.{ap}
+use native.Mathlib.Omega.{arith}
+use lib.Dec.{leb}
+use lib.ListN.{length, getD}
+use Rattle.std.proofs.shelf.Tests.{le-leb}
+use Rattle.std.specs.Options.{mapped}
+use Rattle.frame.specs.declared.refusal.Refusal.the-variants.{JointPast}
+use Rattle.frame.proofs.First.{first-some, first-none}
+use Rattle.frame.proofs.views.«judge_ends».Needs as need
+
+pub returns-then-joint-joints : need.returns-then-joint-joints
+returns-then-joint-joints c =
+    ap (mapped JointPast)
+    (first-some (length (c .args .bars .now)) (λ k. leb (c .args .joints) (getD (c .args .bars .now) k 0)) (c .loop-k .k) (omega arith) (le-leb _ _ (c .if-joint-joints .taken)) (c .loop-k .inv))
+
+pub returns : need.returns
+returns c = ap (mapped JointPast) (first-none (length (c .args .bars .now)) (λ k. leb (c .args .joints) (getD (c .args .bars .now) k 0)) (λ i l. c .loop-k .inv i (omega arith)))

@@ -1,0 +1,5 @@
+// Tests of the crates below, in a crate of their own, since a crate with tests is proved twice.
+#[cfg(test)]
+mod frames;
+#[cfg(test)]
+mod sets;
