@@ -9,10 +9,10 @@ use lib.Dec.{ltb}
 use lib.ListN.{length, length-append}
 use Rattle.std.proofs.shelf.Lists.{getD-append-left}
 use Rattle.std.proofs.shelf.Tests.{cases-bool, and-parts, and-from, and-left, ltb-true, lt-ltb}
-use Rattle.frame.specs.Sets.{Set, count, both, below}
+use Rattle.sets.specs.Sets.{Set, count, both, below}
 use Rattle.frame.specs.Frame.{Bar, Frame, size, bar, no-bar, among, induced, Free, Part, Most}
 use Rattle.frame.specs.Laws.{with-more, Only, Appending}
-use Rattle.frame.proofs.Counts.{count-le, count-same, count-longer}
+use Rattle.sets.proofs.Counts.{count-le, count-same, count-longer}
 use Rattle.frame.proofs.Among.{among-parts, free-part, part-trans}
 
 -- the bars that the frame had keep their numbers

@@ -12,11 +12,11 @@ use Rattle.std.proofs.shelf.Ways.{tells}
 use Rattle.std.specs.declared.option.Option.{Option}
 use Rattle.std.specs.declared.option.Option.the-variants.{Some, None}
 use Rattle.std.specs.Options.{mapped, orOther, whenTrue}
-use Rattle.frame.specs.Sets.{Set, first}
+use Rattle.sets.specs.Sets.{Set, first}
 use Rattle.frame.specs.Frame.{no-bar, among}
 use Rattle.frame.specs.Views.{bars-in, frame-in, Allowed}
 use Rattle.frame.specs.Refusals.{first-of, joints-row, numbers-row, ends-row, apart-row, frame-rows}
-use Rattle.frame.proofs.First.{none-first}
+use Rattle.sets.proofs.First.{none-first}
 
 -- half as many bars as numbers
 pub size-in : (xs : List ℕ) → length (bars-in xs) ≡ length xs / 2

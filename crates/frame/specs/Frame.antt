@@ -5,7 +5,7 @@ use mathlib.Core.Bool.{Bool, true, false, _&&_}
 use mathlib.Core.List.{List}
 use Prim.Native.Nat.{ℕ, _+_, _*_, _≤_, _<_}
 use lib.ListN.{length, getD}
-use Rattle.frame.specs.Sets.{Set, count}
+use Rattle.sets.specs.Sets.{Set, count}
 
 -- a bar, by the numbers of its two ends: an edge
 pub record Bar : Type 0 where

@@ -4,7 +4,7 @@ use mathlib.Core.Bool.{Bool, true}
 use mathlib.Core.Logic.{_↔_}
 use mathlib.Core.List.{List, _++_}
 use Prim.Native.Nat.{ℕ, _+_, _≤_, _<_}
-use Rattle.frame.specs.Sets.{Set, count, both, either}
+use Rattle.sets.specs.Sets.{Set, count, both, either}
 use Rattle.frame.specs.Frame.{Bar, Frame, size, among, induced, Free, Part, Most}
 
 -- the bars among all joints of two groups, and those among the joints of both, are together at least the bars among each.

@@ -11,7 +11,7 @@ use Rattle.std.specs.declared.option.Option.the-variants.{Some, None}
 use Rattle.std.specs.declared.result.Result.{Result}
 use Rattle.std.specs.declared.result.Result.the-variants.{Ok, Err}
 use Rattle.std.specs.Options.{orOther, whenTrue, mapped}
-use Rattle.frame.specs.Sets.{first}
+use Rattle.sets.specs.Sets.{first}
 use Rattle.frame.specs.declared.refusal.Lent.{Lent}
 use Rattle.frame.specs.declared.refusal.Lent.the-variants.{Marks, Room}
 use Rattle.frame.specs.declared.refusal.Refusal.{Refusal}

@@ -9,10 +9,10 @@ use Rattle.std.specs.Iters.{counting}
 use Rattle.std.specs.declared.option.Option.the-variants.{Some, None}
 use Rattle.std.specs.declared.result.Result.{Result}
 use Rattle.std.specs.declared.result.Result.the-variants.{Ok, Err}
-use Rattle.frame.specs.Sets.{Set}
+use Rattle.sets.specs.Sets.{Set}
 use Rattle.frame.specs.Frame.{Bar, Frame, Sound, size}
 use Rattle.frame.specs.Refusals.{first-of, frame-rows, set-rows}
-use Rattle.frame.specs.declared.ids.Ends.{Ends}
+use Rattle.sets.specs.declared.ids.Ends.{Ends}
 use Rattle.frame.specs.declared.views.BarSet.{BarSet}
 use Rattle.frame.specs.declared.views.Frame.{Frame as LentFrame}
 use Rattle.frame.specs.declared.refusal.Refusal.{Refusal}

@@ -1,9 +1,9 @@
 // Why lent numbers are turned away.
 ghost use mathlib.Core.Path.{_≡_};
 ghost use Rattle.frame.specs.Refusals.{number, place};
-use crate::ids::BarId;
-use crate::ids::BarIdDebug;
-use crate::ids::BarIdPartialEq;
+use sets::BarId;
+use sets::ids::BarIdDebug;
+use sets::ids::BarIdPartialEq;
 
 // Which of the lent numbers have the wrong length.
 #[derive(Clone, Copy, PartialEq, Eq, Debug)]

@@ -3,6 +3,9 @@ ghost use Rattle.frame.specs.Refusals.{Judged, length-row, marks-row};
 use crate::refusal::Lent;
 use crate::refusal::Refusal;
 
+// The mark of a bar that is in the set; that of any other is 0.
+pub const IN_SET: u8 = 1;
+
 // Row 5: marks or room of another length than they should have.
 pub fn judge_length(lent: Lent, has: usize, wanted: usize) -> Result<(), Refusal>
     ensures { λ r. ⌜ Judged r (length-row lent has wanted) ⌝ }
@@ -18,7 +21,7 @@ pub fn judge_marks(marks: &[u8]) -> Result<(), Refusal>
     ensures { λ r. ⌜ Judged r (marks-row (now (marks .entry))) ⌝ }
 {
     for (k, mark) in marks.iter().enumerate() {
-        if *mark > 1 {
+        if *mark > IN_SET {
             return Err(Refusal::Mark(k));
         }
     }

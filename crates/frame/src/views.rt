@@ -4,19 +4,27 @@ ghost use mathlib.Core.Path.{_≡_};
 ghost use lib.Dec.{ltb};
 ghost use lib.ListN.{length};
 ghost use Rattle.std.specs.Options.{mapped, whenTrue};
-ghost use Rattle.frame.specs.Sets.{count};
+ghost use Rattle.sets.specs.Sets.{count};
 ghost use Rattle.frame.specs.Frame.{size, bar as bar-at, among, induced};
-ghost use Rattle.frame.specs.Words.{members};
+ghost use Rattle.sets.specs.Words.{members};
 ghost use Rattle.frame.specs.Views.{frame-of, marks-of, set-of, bar-of, Made, Marked};
 ghost use Rattle.frame.specs.Refusals.{Judged, joints-row, numbers-row, ends-row, apart-row};
-use crate::ids::BarId;
-use crate::ids::Ends;
-use crate::ids::JointId;
-use crate::joint_set::JointSet;
 use crate::refusal::Lent;
 use crate::refusal::Refusal;
+use crate::rows::IN_SET;
 use crate::rows::judge_length;
 use crate::rows::judge_marks;
+use sets::BarId;
+use sets::Ends;
+use sets::JointId;
+use sets::JointSet;
+
+// How many joints and bars a frame can have.
+pub const LEAST_JOINTS: u64 = 2;
+
+pub const MOST_JOINTS: u64 = 512;
+
+pub const MOST_BARS: usize = 2048;
 
 // A frame over lent numbers, two joints for each bar. It is made by `new` alone.
 #[derive(Clone, Copy)]
@@ -70,7 +78,7 @@ impl<'a> Frame<'a> {
 fn judge_joints(joints: u64) -> Result<(), Refusal>
     ensures { λ r. ⌜ Judged r (joints-row joints) ⌝ }
 {
-    if joints < 2 || joints > 512 {
+    if joints < LEAST_JOINTS || joints > MOST_JOINTS {
         return Err(Refusal::JointCount);
     }
     Ok(())
@@ -80,7 +88,7 @@ fn judge_joints(joints: u64) -> Result<(), Refusal>
 fn judge_numbers(bars: &[u16]) -> Result<(), Refusal>
     ensures { λ r. ⌜ Judged r (numbers-row (now (bars .entry))) ⌝ }
 {
-    if bars.len() % 2 == 1 || bars.len() / 2 > 2048 {
+    if bars.len() % 2 == 1 || bars.len() / 2 > MOST_BARS {
         return Err(Refusal::BarNumbers(bars.len()));
     }
     Ok(())
@@ -140,7 +148,7 @@ impl<'a> BarSet<'a> {
     {
         let mut n: usize = 0;
         for mark in self.marks {
-            if *mark == 1 {
+            if *mark == IN_SET {
                 n += 1;
             }
         }
@@ -151,13 +159,13 @@ impl<'a> BarSet<'a> {
     pub fn among(&self, frame: &Frame<'_>, joints: &JointSet) -> usize
         ensures { λ r. ⌜ r ≡ induced (frame-of (now (frame .entry))) (members (now (joints .entry))) (set-of (now (self .entry))) ⌝ }
     {
-        let mut n: usize = 0;
+        let mut total: usize = 0;
         for k in 0..frame.bar_count() {
             if self.is_among(frame, joints, k) {
-                n += 1;
+                total += 1;
             }
         }
-        n
+        total
     }
 
     // Whether bar k of the frame is in the set with both its ends among some joints.
@@ -176,6 +184,6 @@ impl<'a> BarSet<'a> {
     fn has_mark(&self, k: usize) -> bool
         ensures { λ r. ⌜ r ≡ set-of (now (self .entry)) k ⌝ }
     {
-        k < self.marks.len() && self.marks[k] == 1
+        k < self.marks.len() && self.marks[k] == IN_SET
     }
 }

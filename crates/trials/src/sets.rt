@@ -1,8 +1,8 @@
 // Sets of joints, at the edges of words and past the last joint.
 use frame::JointId;
 use frame::JointSet;
-use frame::ids::JointIdDebug;
-use frame::ids::JointIdPartialEq;
+use sets::ids::JointIdDebug;
+use sets::ids::JointIdPartialEq;
 use std::test::*;
 
 #[test]

@@ -5,13 +5,13 @@ use lib.ListN.{length, getD}
 use Rattle.std.proofs.shelf.Tests.{lt-ltb}
 use Rattle.std.specs.Options.{mapped}
 use Rattle.frame.specs.declared.refusal.Refusal.the-variants.{Mark}
-use Rattle.frame.proofs.First.{first-some, first-none}
+use Rattle.sets.proofs.First.{first-some, first-none}
 use Rattle.frame.proofs.rows.«judge_marks».Needs as need
 
-pub returns-then-mark-gt1 : need.returns-then-mark-gt1
-returns-then-mark-gt1 c =
+pub returns-then-mark-gt-IN-SET : need.returns-then-mark-gt-IN-SET
+returns-then-mark-gt-IN-SET c =
     ap (mapped Mark)
-    (first-some (length (c .args .marks .now)) (λ k. ltb 1 (getD (c .args .marks .now) k 0)) (c .loop-k .k) (omega arith) (lt-ltb 1 _ (c .if-mark-gt1 .taken)) (c .loop-k .inv))
+    (first-some (length (c .args .marks .now)) (λ k. ltb 1 (getD (c .args .marks .now) k 0)) (c .loop-k .k) (omega arith) (lt-ltb 1 _ (c .if-mark-gt-IN-SET .taken)) (c .loop-k .inv))
 
 pub returns : need.returns
 returns c = ap (mapped Mark) (first-none (length (c .args .marks .now)) (λ k. ltb 1 (getD (c .args .marks .now) k 0)) (λ i l. c .loop-k .inv i (omega arith)))

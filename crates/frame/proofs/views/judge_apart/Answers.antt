@@ -6,7 +6,7 @@ use lib.ListN.{length, getD}
 use Rattle.std.proofs.shelf.Tests.{eq-eqb}
 use Rattle.std.specs.Options.{mapped}
 use Rattle.frame.specs.declared.refusal.Refusal.the-variants.{EqualEnds}
-use Rattle.frame.proofs.First.{first-some, first-none}
+use Rattle.sets.proofs.First.{first-some, first-none}
 use Rattle.frame.proofs.views.«judge_apart».Needs as need
 
 pub returns-then-bars-k : need.returns-then-bars-k

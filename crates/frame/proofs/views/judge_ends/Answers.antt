@@ -5,7 +5,7 @@ use lib.ListN.{length, getD}
 use Rattle.std.proofs.shelf.Tests.{le-leb}
 use Rattle.std.specs.Options.{mapped}
 use Rattle.frame.specs.declared.refusal.Refusal.the-variants.{JointPast}
-use Rattle.frame.proofs.First.{first-some, first-none}
+use Rattle.sets.proofs.First.{first-some, first-none}
 use Rattle.frame.proofs.views.«judge_ends».Needs as need
 
 pub returns-then-joint-joints : need.returns-then-joint-joints

@@ -1,6 +1,6 @@
 use mathlib.Core.Path.{sym}
 use Rattle.frame.specs.Views.{set-of}
-use Rattle.frame.specs.Words.{members}
+use Rattle.sets.specs.Words.{members}
 use Rattle.frame.proofs.Frames.{among-in}
 use Rattle.frame.proofs.views.BarSet.«is_among».Needs as need
 

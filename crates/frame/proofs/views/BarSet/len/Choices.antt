@@ -1,7 +1,7 @@
 use mathlib.Core.Path.{_≡_}
 use Prim.Native.Nat.{_≤_}
 use Rattle.frame.specs.Views.{set-in}
-use Rattle.frame.specs.Sets.{count}
+use Rattle.sets.specs.Sets.{count}
 use Rattle.frame.proofs.views.BarSet.len.Given as given
 
 abbrev pub Inv-loop-mark : given.InvT-loop-mark

@@ -14,7 +14,9 @@ returns-then-k-self c =
 pub returns : need.returns
 returns c =
     let within : c .args .bar .0 < length (c .args .self .now .bars .now) / 2 = omega arith in
-    rw
-    ( size-in (c .args .self .now .bars .now), lt-ltb (c .args .bar .0) (length (c .args .self .now .bars .now) / 2) within
-    , bar-in (c .args .self .now .bars .now) (c .args .bar .0) within )
+    rw (
+      size-in (c .args .self .now .bars .now),
+      lt-ltb (c .args .bar .0) (length (c .args .self .now .bars .now) / 2) within,
+      bar-in (c .args .self .now .bars .now) (c .args .bar .0) within,
+    )
     refl

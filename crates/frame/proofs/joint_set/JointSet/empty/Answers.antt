@@ -1,5 +1,0 @@
-use Rattle.frame.proofs.Words.{of-zeros}
-use Rattle.frame.proofs.joint_set.JointSet.empty.Needs as need
-
-pub returns : need.returns
-returns c = of-zeros 8

@@ -1,8 +1,0 @@
-use mathlib.Core.Path.{_≡_}
-use Prim.Native.Nat.{_*_, _≤_}
-use Rattle.frame.specs.Sets.{count}
-use Rattle.frame.specs.Words.{members}
-use Rattle.frame.proofs.joint_set.JointSet.len.Given as given
-
-abbrev pub Inv-loop-k : given.InvT-loop-k
-Inv-loop-k l = (l .n ≡ count (64 * l .k) (members (l .self))) × (l .n ≤ 64 * l .k)
