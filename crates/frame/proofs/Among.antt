@@ -6,10 +6,10 @@ use native.Mathlib.Omega.{arith}
 use lib.Dec.{eqb}
 use Rattle.std.proofs.shelf.Tests.{and-parts, and-from}
 use Rattle.std.proofs.shelf.Ways.{tells}
-use Rattle.sets.specs.Sets.{Set, count, also, less, both, either, Within}
+use Rattle.sets.specs.Sets.{Set, also, less, both, either, Within, count, over}
 use Rattle.frame.specs.Frame.{Frame, size, bar, Sound, among, induced, Free, Part, Most}
 use Rattle.frame.specs.Laws.{Supermodular}
-use Rattle.sets.proofs.Counts.{count-le, count-same, count-either-both, count-split, count-also-both, over, over-plus, over-items}
+use Rattle.sets.proofs.Counts.{count-le, count-same, count-either-both, count-split, count-also-both, over-plus, over-items}
 
 -- what it says of a bar to be among some joints, in each direction
 pub among-parts : (f : Frame) (js bs : Set) (k : ℕ) → among f js bs k ≡ true → (bs k ≡ true) × (js (bar f k .one) ≡ true) × (js (bar f k .two) ≡ true)

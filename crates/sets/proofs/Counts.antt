@@ -9,7 +9,8 @@ use native.Mathlib.Numerals.{add-one}
 use lib.Dec.{eqb}
 use Rattle.std.proofs.shelf.Tests.{cases-bool, cases-eq, cases-order, and-parts, cond-true, cond-false, ne-eqb}
 use Rattle.std.proofs.shelf.Ways.{tells}
-use Rattle.sets.specs.Sets.{Set, count, also, less, both, either}
+use Rattle.sets.specs.Laws.{Counting}
+use Rattle.sets.specs.Sets.{Set, also, less, both, either, count, over}
 
 -- one number more to count, which is in the set or not: the step of a loop
 pub count-step : (n : ℕ) (s : Set) (b : Bool) → b ≡ s n → count (n + 1) s ≡ count n s + cond b 1 0
@@ -150,11 +151,6 @@ count-longer n m s h =
     let rest = count-none m (λ k. s (n + k)) λ k _. ⊎-elim (λ y. absurd (omega (arith, h (n + k) y))) (λ o. o) (cases-bool (s (n + k))) in
     omega (arith, count-plus n m s)
 
--- the sum of weights over the numbers below n of a set
-unfoldable pub over : ℕ → Set → (ℕ → ℕ) → ℕ
-over zero js w = 0
-over (suc n) js w = cond (js n) (w n) 0 + over n js w
-
 -- smaller weights have a smaller sum
 pub over-le : (n : ℕ) (js : Set) (v w : ℕ → ℕ) → ((k : ℕ) → k < n → js k ≡ true → v k ≤ w k) → over n js v ≤ over n js w
 unfolding over
@@ -218,3 +214,14 @@ over-items n (suc m) js g at h =
       at-one n js (g m) (at m) (h m (omega arith)),
       over-items n m js g at (λ b l. h b (omega arith)),
     )
+
+-- the laws that are stated, all in one
+pub counting : Counting
+counting =
+    record {
+      order = count-le;
+      join = count-either-both;
+      one-more = count-also;
+      one-less = count-less;
+      double = over-items;
+    }

@@ -44,6 +44,11 @@ unfoldable pub count : ℕ → Set → ℕ
 count zero s = 0
 count (suc n) s = cond (s n) 1 0 + count n s
 
+-- the sum of weights over the numbers below n that are in the set
+unfoldable pub over : ℕ → Set → (weight : ℕ → ℕ) → ℕ
+over zero s w = 0
+over (suc n) s w = cond (s n) (w n) 0 + over n s w
+
 -- the first number below n that is in the set, if there is one
 unfoldable pub first : ℕ → Set → Option ℕ
 first zero s = None
