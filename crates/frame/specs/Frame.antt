@@ -4,7 +4,10 @@ use mathlib.Core.Path.{_≡_}
 use mathlib.Core.Bool.{Bool, true, false, _&&_}
 use mathlib.Core.List.{List}
 use Prim.Native.Nat.{ℕ, _+_, _*_, _≤_, _<_}
+use lib.Dec.{ltb}
 use lib.ListN.{length, getD}
+use Rattle.std.specs.declared.option.Option.{Option}
+use Rattle.std.specs.Options.{whenTrue}
 use Rattle.sets.specs.Sets.{Set, count}
 
 -- a bar, by the numbers of its two ends: an edge
@@ -28,6 +31,10 @@ size f = length (f .bars)
 -- the bar of a number
 abbrev pub bar : Frame → ℕ → Bar
 bar f k = getD (f .bars) k no-bar
+
+-- the bar of a number, or none past the frame
+abbrev pub lookup : Frame → ℕ → Option Bar
+lookup f k = whenTrue (ltb k (size f)) (bar f k)
 
 -- every bar has two different joints, both of the frame
 pub record Sound (f : Frame) : Type 0 where

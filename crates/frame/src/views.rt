@@ -1,12 +1,11 @@
 // Frames and sets of bars over what the caller lends.
 ghost use Prim.Native.Nat.{_/_, _<_, _≤_};
 ghost use mathlib.Core.Path.{_≡_};
-ghost use lib.Dec.{ltb};
 ghost use lib.ListN.{length};
-ghost use Rattle.std.specs.Options.{mapped, whenTrue};
+ghost use Rattle.std.specs.Options.{mapped};
 ghost use Rattle.sets.specs.Sets.{count};
-ghost use Rattle.frame.specs.Frame.{size, bar as bar-at, among, induced};
 ghost use Rattle.sets.specs.Words.{members};
+ghost use Rattle.frame.specs.Frame.{size, lookup, among, induced};
 ghost use Rattle.frame.specs.Views.{frame-of, marks-of, set-of, bar-of, Made, Marked};
 ghost use Rattle.frame.specs.Refusals.{Judged, joints-row, numbers-row, ends-row, apart-row};
 use crate::refusal::Lent;
@@ -19,11 +18,13 @@ use sets::Ends;
 use sets::JointId;
 use sets::JointSet;
 
-// How many joints and bars a frame can have.
+// The fewest joints that a frame has.
 pub const LEAST_JOINTS: u64 = 2;
 
+// The most joints that a frame has.
 pub const MOST_JOINTS: u64 = 512;
 
+// The most bars that a frame has.
 pub const MOST_BARS: usize = 2048;
 
 // A frame over lent numbers, two joints for each bar. It is made by `new` alone.
@@ -61,7 +62,7 @@ impl<'a> Frame<'a> {
 
     // The two ends of a bar, or none past the frame.
     pub fn ends(&self, bar: BarId) -> Option<Ends>
-        ensures { λ r. ⌜ mapped bar-of r ≡ whenTrue (ltb (bar .0) (size (frame-of (now (self .entry))))) (bar-at (frame-of (now (self .entry))) (bar .0)) ⌝ }
+        ensures { λ r. ⌜ mapped bar-of r ≡ lookup (frame-of (now (self .entry))) (bar .0) ⌝ }
     {
         let k = bar.0 as usize;
         if 2 * k + 1 >= self.bars.len() {
