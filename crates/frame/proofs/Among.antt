@@ -7,24 +7,24 @@ use lib.Dec.{eqb}
 use Rattle.std.proofs.shelf.Tests.{and-parts, and-from}
 use Rattle.std.proofs.shelf.Ways.{tells}
 use Rattle.sets.specs.Sets.{Set, also, less, both, either, Within, count, over}
-use Rattle.frame.specs.Frame.{Frame, size, bar, Sound, among, induced, Free, Part, Most}
+use Rattle.frame.specs.Frame.{Frame, size, bar-at, Sound, among, induced, Free, Part, Most}
 use Rattle.frame.specs.Laws.{Supermodular}
 use Rattle.sets.proofs.Counts.{count-le, count-same, count-either-both, count-split, count-also-both, over-plus, over-items}
 
 -- what it says of a bar to be among some joints, in each direction
-pub among-parts : (f : Frame) (js bs : Set) (k : ℕ) → among f js bs k ≡ true → (bs k ≡ true) × (js (bar f k .one) ≡ true) × (js (bar f k .two) ≡ true)
+pub among-parts : (f : Frame) (js bs : Set) (k : ℕ) → among f js bs k ≡ true → (bs k ≡ true) × (js (bar-at f k .one) ≡ true) × (js (bar-at f k .two) ≡ true)
 unfolding among
 among-parts f js bs k h =
     let p = and-parts _ _ h in
     let q = and-parts _ _ (p .1) in
     (p .0, q .0, q .1)
 
-pub among-from : (f : Frame) (js bs : Set) (k : ℕ) → bs k ≡ true → js (bar f k .one) ≡ true → js (bar f k .two) ≡ true → among f js bs k ≡ true
+pub among-from : (f : Frame) (js bs : Set) (k : ℕ) → bs k ≡ true → js (bar-at f k .one) ≡ true → js (bar-at f k .two) ≡ true → among f js bs k ≡ true
 unfolding among
 among-from f js bs k b o t = and-from _ _ b (and-from _ _ o t)
 
 -- more joints and more bars: a bar among the joints stays among them
-ends-le : (f : Frame) (js is bs cs : Set) → ((k : ℕ) → k < size f → (js (bar f k .one) ≡ true → is (bar f k .one) ≡ true) × (js (bar f k .two) ≡ true → is (bar f k .two) ≡ true)) → Part f bs cs → induced f js bs ≤ induced f is cs
+ends-le : (f : Frame) (js is bs cs : Set) → ((k : ℕ) → k < size f → (js (bar-at f k .one) ≡ true → is (bar-at f k .one) ≡ true) × (js (bar-at f k .two) ≡ true → is (bar-at f k .two) ≡ true)) → Part f bs cs → induced f js bs ≤ induced f is cs
 unfolding Part
 ends-le f js is bs cs w p =
     count-le (size f) _ _ λ k b h.
@@ -58,7 +58,7 @@ induced-all f js bs s a =
 -- sets of bars that agree have as many bars among some joints
 pub induced-same : (f : Frame) (js xs ys : Set) → ((k : ℕ) → k < size f → xs k ≡ ys k) → induced f js xs ≡ induced f js ys
 unfolding among
-induced-same f js xs ys h = count-same (size f) _ _ λ k b. ap (λ v. v && (js (bar f k .one) && js (bar f k .two))) (h k b)
+induced-same f js xs ys h = count-same (size f) _ _ λ k b. ap (λ v. v && (js (bar-at f k .one) && js (bar-at f k .two))) (h k b)
 
 -- of two sets of bars, those in one at least and those in both
 pub induced-either-both : (f : Frame) (js xs ys : Set) → induced f js (either xs ys) + induced f js (both xs ys) ≡ induced f js xs + induced f js ys
@@ -94,18 +94,18 @@ supermodular f js is bs =
     )
 
 -- one bar more counts among the joints if both of its ends are there
-pub induced-also : (f : Frame) (js xs : Set) (i : ℕ) → i < size f → xs i ≡ false → induced f js (also xs i) ≡ induced f js xs + cond (js (bar f i .one) && js (bar f i .two)) 1 0
+pub induced-also : (f : Frame) (js xs : Set) (i : ℕ) → i < size f → xs i ≡ false → induced f js (also xs i) ≡ induced f js xs + cond (js (bar-at f i .one) && js (bar-at f i .two)) 1 0
 unfolding among
-induced-also f js xs i = count-also-both (size f) xs (λ k. js (bar f k .one) && js (bar f k .two)) i
+induced-also f js xs i = count-also-both (size f) xs (λ k. js (bar-at f k .one) && js (bar-at f k .two)) i
 
 -- one joint less: the bars with an end there are no more among the joints
-pub induced-less : (f : Frame) (js bs : Set) (j : ℕ) → induced f js bs ≡ induced f (less js j) bs + count (size f) (λ k. among f js bs k && (eqb (bar f k .one) j || eqb (bar f k .two) j))
+pub induced-less : (f : Frame) (js bs : Set) (j : ℕ) → induced f js bs ≡ induced f (less js j) bs + count (size f) (λ k. among f js bs k && (eqb (bar-at f k .one) j || eqb (bar-at f k .two) j))
 unfolding among
 induced-less f js bs j =
     omega (
       arith,
-      count-split (size f) (among f js bs) (λ k. eqb (bar f k .one) j || eqb (bar f k .two) j),
-      count-same (size f) (among f (less js j) bs) (λ k. among f js bs k && not (eqb (bar f k .one) j || eqb (bar f k .two) j)) (λ k b. grind (arith, tells)),
+      count-split (size f) (among f js bs) (λ k. eqb (bar-at f k .one) j || eqb (bar-at f k .two) j),
+      count-same (size f) (among f (less js j) bs) (λ k. among f js bs k && not (eqb (bar-at f k .one) j || eqb (bar-at f k .two) j)) (λ k b. grind (arith, tells)),
     )
 
 -- a part of a part is a part, and a part of a free set is free
@@ -134,18 +134,18 @@ most-same f bs xs ys h m = record {
 
 -- how many ends at a joint the bars of a set have
 unfoldable pub degree : Frame → Set → ℕ → ℕ
-degree f bs j = count (size f) (λ k. bs k && eqb (bar f k .one) j) + count (size f) (λ k. bs k && eqb (bar f k .two) j)
+degree f bs j = count (size f) (λ k. bs k && eqb (bar-at f k .one) j) + count (size f) (λ k. bs k && eqb (bar-at f k .two) j)
 
 -- in a sound frame, the degrees of some joints sum up to the bars with an end there, and once more those with both ends there
-pub degrees : (f : Frame) (js bs : Set) → Sound f → over (f .joints) js (degree f bs) ≡ count (size f) (λ k. bs k && (js (bar f k .one) || js (bar f k .two))) + induced f js bs
+pub degrees : (f : Frame) (js bs : Set) → Sound f → over (f .joints) js (degree f bs) ≡ count (size f) (λ k. bs k && (js (bar-at f k .one) || js (bar-at f k .two))) + induced f js bs
 unfolding degree among
 degrees f js bs s =
     omega (
       arith,
-      over-plus (f .joints) js (λ j. count (size f) (λ k. bs k && eqb (bar f k .one) j)) (λ j. count (size f) (λ k. bs k && eqb (bar f k .two) j)),
-      over-items (f .joints) (size f) js bs (λ k. bar f k .one) (λ k b _. s .inside k b .0),
-      over-items (f .joints) (size f) js bs (λ k. bar f k .two) (λ k b _. s .inside k b .1),
-      count-either-both (size f) (λ k. bs k && js (bar f k .one)) (λ k. bs k && js (bar f k .two)),
-      count-same (size f) (λ k. bs k && (js (bar f k .one) || js (bar f k .two))) (either (λ k. bs k && js (bar f k .one)) (λ k. bs k && js (bar f k .two))) (λ k b. grind (arith, tells)),
-      count-same (size f) (among f js bs) (both (λ k. bs k && js (bar f k .one)) (λ k. bs k && js (bar f k .two))) (λ k b. grind (arith, tells)),
+      over-plus (f .joints) js (λ j. count (size f) (λ k. bs k && eqb (bar-at f k .one) j)) (λ j. count (size f) (λ k. bs k && eqb (bar-at f k .two) j)),
+      over-items (f .joints) (size f) js bs (λ k. bar-at f k .one) (λ k b _. s .inside k b .0),
+      over-items (f .joints) (size f) js bs (λ k. bar-at f k .two) (λ k b _. s .inside k b .1),
+      count-either-both (size f) (λ k. bs k && js (bar-at f k .one)) (λ k. bs k && js (bar-at f k .two)),
+      count-same (size f) (λ k. bs k && (js (bar-at f k .one) || js (bar-at f k .two))) (either (λ k. bs k && js (bar-at f k .one)) (λ k. bs k && js (bar-at f k .two))) (λ k b. grind (arith, tells)),
+      count-same (size f) (among f js bs) (both (λ k. bs k && js (bar-at f k .one)) (λ k. bs k && js (bar-at f k .two))) (λ k b. grind (arith, tells)),
     )

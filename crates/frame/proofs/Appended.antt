@@ -10,7 +10,7 @@ use lib.ListN.{length, length-append}
 use Rattle.std.proofs.shelf.Lists.{getD-append-left}
 use Rattle.std.proofs.shelf.Tests.{cases-bool, and-parts, and-from, and-left, ltb-true, lt-ltb}
 use Rattle.sets.specs.Sets.{Set, count, both, below}
-use Rattle.frame.specs.Frame.{Bar, Frame, size, bar, no-bar, among, induced, Free, Part, Most}
+use Rattle.frame.specs.Frame.{Bar, Frame, size, bar-at, no-bar, among, induced, Free, Part, Most}
 use Rattle.frame.specs.Laws.{with-more, Only, Appending}
 use Rattle.sets.proofs.Counts.{count-le, count-same, count-longer}
 use Rattle.frame.proofs.Among.{among-parts, free-part, part-trans}
@@ -19,7 +19,7 @@ use Rattle.frame.proofs.Among.{among-parts, free-part, part-trans}
 pub size-more : (f : Frame) (more : List Bar) → size (with-more f more) ≡ size f + length more
 size-more f more = length-append (f .bars) more
 
-pub bar-more : (f : Frame) (more : List Bar) (k : ℕ) → k < size f → bar (with-more f more) k ≡ bar f k
+pub bar-more : (f : Frame) (more : List Bar) (k : ℕ) → k < size f → bar-at (with-more f more) k ≡ bar-at f k
 bar-more f more k = getD-append-left (f .bars) more no-bar k
 
 -- what is counted of a set of those bars

@@ -1,3 +1,4 @@
 pub mod Among
 pub mod Appended
 pub mod Frames
+pub mod Small
