@@ -1,13 +1,13 @@
 -- Which bars of a set are among some joints, how many they are, and that parts of free sets are free.
-use mathlib.Core.Path.{_≡_, sym, ap, _∙_}
-use mathlib.Core.Bool.{true, false, cond, not, _&&_, _||_}
+use mathlib.Core.Path.{_≡_, sym, ap, ap₂, _∙_}
+use mathlib.Core.Bool.{Bool, true, false, cond, not, _&&_, _||_}
 use Prim.Native.Nat.{ℕ, _+_, _≤_, _<_}
 use native.Mathlib.Omega.{arith}
 use lib.Dec.{eqb}
 use Rattle.std.proofs.shelf.Tests.{and-parts, and-from}
 use Rattle.std.proofs.shelf.Ways.{tells}
 use Rattle.sets.specs.Sets.{Set, also, less, both, either, Within, count, over}
-use Rattle.frame.specs.Frame.{Frame, size, bar-at, Sound, among, induced, Free, Part, Most}
+use Rattle.frame.specs.Frame.{Bar, Frame, size, bar-at, Sound, among, induced, Free, Part, Most}
 use Rattle.frame.specs.Laws.{Supermodular}
 use Rattle.sets.proofs.Counts.{count-le, count-same, count-either-both, count-split, count-also-both, over-plus, over-items}
 
@@ -22,6 +22,11 @@ among-parts f js bs k h =
 pub among-from : (f : Frame) (js bs : Set) (k : ℕ) → bs k ≡ true → js (bar-at f k .one) ≡ true → js (bar-at f k .two) ≡ true → among f js bs k ≡ true
 unfolding among
 among-from f js bs k b o t = and-from _ _ b (and-from _ _ o t)
+
+-- the same as a test, of a bar that is read and of whether it is in the set
+pub among-is : (f : Frame) (js bs : Set) (k : ℕ) (b : Bar) (m : Bool) → b ≡ bar-at f k → m ≡ bs k → (m && (js (b .one) && js (b .two))) ≡ among f js bs k
+unfolding among
+among-is f js bs k b m e d = ap₂ (λ (c : Bar) (t : Bool). t && (js (c .one) && js (c .two))) e d
 
 -- more joints and more bars: a bar among the joints stays among them
 ends-le : (f : Frame) (js is bs cs : Set) → ((k : ℕ) → k < size f → (js (bar-at f k .one) ≡ true → is (bar-at f k .one) ≡ true) × (js (bar-at f k .two) ≡ true → is (bar-at f k .two) ≡ true)) → Part f bs cs → induced f js bs ≤ induced f is cs

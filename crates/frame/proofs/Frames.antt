@@ -15,7 +15,7 @@ use Rattle.std.specs.Options.{mapped, orOther, whenTrue}
 use Rattle.sets.specs.Sets.{Set, first}
 use Rattle.frame.specs.Frame.{no-bar, among}
 use Rattle.frame.specs.Views.{bars-in, frame-in, Allowed}
-use Rattle.frame.specs.Refusals.{first-of, joints-row, numbers-row, ends-row, apart-row, frame-rows}
+use Rattle.frame.specs.Refusals.{joints-row, numbers-row, ends-row, apart-row, past, equal-ends}
 use Rattle.sets.proofs.First.{none-first}
 
 -- half as many bars as numbers
@@ -27,13 +27,6 @@ size-in xs = length-map-counting _ 0 (length xs / 2)
 pub bar-in : (xs : List ℕ) (k : ℕ) → k < length xs / 2 → getD (bars-in xs) k no-bar ≡ record { one = getD xs (2 * k) 0; two = getD xs (2 * k + 1) 0 }
 unfolding bars-in
 bar-in xs k lt = getD-map-counting (λ k. record { one = getD xs (2 * k) 0; two = getD xs (2 * k + 1) 0 }) 0 (length xs / 2) k k no-bar lt (omega arith)
-
--- a bar of the frame is among some joints if the two numbers are
-pub among-in :
-    (joints : ℕ) (xs : List ℕ) (js bs : Set) (k : ℕ) → k < length xs / 2 →
-    among (frame-in joints xs) js bs k ≡ (bs k && (js (getD xs (2 * k) 0) && js (getD xs (2 * k + 1) 0)))
-unfolding among
-among-in joints xs js bs k lt = rw (bar-in xs k lt) refl
 
 -- a test that refuses nothing is false, and a search that finds nothing has found nothing
 untaken : {X : Type 0} (t : Bool) (x : X) → whenTrue t x ≡ None → t ≡ false
@@ -51,9 +44,9 @@ pub allowed-in :
 allowed-in joints xs r₁ r₂ r₃ r₄ =
     record {
       sound = record { inside = inside; apart = apart };
-      some = ltb-false joints 2 (limits .0);
-      most = ltb-false 512 joints (limits .1);
-      few = omega (arith, size-in xs, ltb-false 2048 (length xs / 2) (numbers .1));
+      least-joints = ltb-false joints 2 (limits .0);
+      most-joints = ltb-false 512 joints (limits .1);
+      most-bars = omega (arith, size-in xs, ltb-false 2048 (length xs / 2) (numbers .1));
     }
   where
     limits : (ltb joints 2 ≡ false) × (ltb 512 joints ≡ false)
@@ -63,7 +56,7 @@ allowed-in joints xs r₁ r₂ r₃ r₄ =
     numbers = or-parts (eqb (length xs % 2) 1) (ltb 2048 (length xs / 2)) (untaken _ _ r₂)
 
     end : (k : ℕ) → k < length xs → getD xs k 0 < joints
-    end k lt = leb-false _ _ (none-first (length xs) (λ i. leb joints (getD xs i 0)) (unfound _ _ r₃) k lt)
+    end k lt = leb-false _ _ (none-first (length xs) (past joints xs) (unfound _ _ r₃) k lt)
 
     inside : (k : ℕ) → k < length (bars-in xs) → (getD (bars-in xs) k no-bar .one < joints) × (getD (bars-in xs) k no-bar .two < joints)
     inside k lt =
@@ -73,4 +66,4 @@ allowed-in joints xs r₁ r₂ r₃ r₄ =
     apart : (k : ℕ) → k < length (bars-in xs) → getD (bars-in xs) k no-bar .one ≡ getD (bars-in xs) k no-bar .two → ⊥
     apart k lt e =
         let l : k < length xs / 2 = omega (arith, size-in xs) in
-        eqb-false (getD xs (2 * k) 0) (getD xs (2 * k + 1) 0) (none-first (length xs / 2) (λ i. eqb (getD xs (2 * i) 0) (getD xs (2 * i + 1) 0)) (unfound _ _ r₄) k l) (rw (bar-in xs k l) at e)
+        eqb-false (getD xs (2 * k) 0) (getD xs (2 * k + 1) 0) (none-first (length xs / 2) (equal-ends xs) (unfound _ _ r₄) k l) (rw (bar-in xs k l) at e)

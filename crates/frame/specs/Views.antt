@@ -45,9 +45,9 @@ bar-of e = record { one = e .one .0; two = e .two .0 }
 -- a frame that is looked at: a sound one with 2 to 512 joints and at most 2,048 bars
 pub record Allowed (f : Frame) : Type 0 where
   pub sound : Sound f
-  pub some : 2 ≤ f .joints
-  pub most : f .joints ≤ 512
-  pub few : size f ≤ 2048
+  pub least-joints : 2 ≤ f .joints
+  pub most-joints : f .joints ≤ 512
+  pub most-bars : size f ≤ 2048
 
 -- a frame is made of just what is lent, where no row applies; else the first row that does is the answer
 abbrev pub Made : Result LentFrame Refusal → (joints : ℕ) (bars : List ℕ) → Type 0

@@ -5,19 +5,21 @@ use sets::BarId;
 use sets::ids::BarIdDebug;
 use sets::ids::BarIdPartialEq;
 
-// Which of the lent numbers have the wrong length.
+// What has the wrong length: marks that are read, or room that is written to.
 #[derive(Clone, Copy, PartialEq, Eq, Debug)]
 pub enum Lent {
     Marks,
     Room,
 }
 
-// A refusal. The cases stand in the order in which the rows are judged; each has a number and names a place.
+// A refusal. Its cases are the rows of a list: each has a number, says when it applies, and names a place, which may be a place in
+// what is lent, a length or a bar. The rows are judged in the order of their numbers. Rows 7 to 10 are for calls over lists, groups and
+// single bars; no call of this crate answers them.
 #[derive(Clone, Copy, PartialEq, Eq, Debug)]
 pub enum Refusal {
     // 1: fewer than 2 joints, or more than 512.
     JointCount,
-    // 2: numbers of bars that are not two for each bar, or more than 2,048 bars; the length.
+    // 2: an odd count of numbers, which is not two for each bar, or more than 2,048 bars; the length.
     BarNumbers(usize),
     // 3: a joint past the frame; its place.
     JointPast(usize),
@@ -56,7 +58,7 @@ impl Refusal {
         }
     }
 
-    // The place in the lent numbers, from 0.
+    // The place that the row names, as said at each case.
     pub fn place(&self) -> u64
         ensures { λ r. ⌜ r ≡ place (now (self .entry)) ⌝ }
     {

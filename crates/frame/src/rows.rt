@@ -1,4 +1,5 @@
-// Rows by which marks and room are judged, each by a function of its own. `?` joins them: the first that applies is the answer.
+// The rows that judge marks and room, each a function of its own, for any call that is lent some. `?` joins rows: the first that
+// applies is the answer. The rows that judge a frame stand beside `Frame::new`, which alone judges them.
 ghost use Rattle.frame.specs.Refusals.{Judged, length-row, marks-row};
 use crate::refusal::Lent;
 use crate::refusal::Refusal;

@@ -5,7 +5,7 @@ ghost use lib.ListN.{length};
 ghost use Rattle.std.specs.Options.{mapped};
 ghost use Rattle.sets.specs.Sets.{count};
 ghost use Rattle.sets.specs.Words.{members};
-ghost use Rattle.frame.specs.Frame.{size, lookup, among, induced};
+ghost use Rattle.frame.specs.Frame.{size, bar-at, lookup, among, induced};
 ghost use Rattle.frame.specs.Views.{frame-of, marks-of, set-of, bar-of, Made, Marked};
 ghost use Rattle.frame.specs.Refusals.{Judged, joints-row, numbers-row, ends-row, apart-row};
 use crate::refusal::Lent;
@@ -65,13 +65,21 @@ impl<'a> Frame<'a> {
         ensures { λ r. ⌜ mapped bar-of r ≡ lookup (frame-of (now (self .entry))) (bar .0) ⌝ }
     {
         let k = bar.0 as usize;
-        if 2 * k + 1 >= self.bars.len() {
+        if k >= self.bar_count() {
             return None;
         }
-        Some(Ends {
+        Some(self.ends_at(k))
+    }
+
+    // The two ends of bar k.
+    fn ends_at(&self, k: usize) -> Ends
+        requires { ⌜ k < length (now (now self .bars)) / 2 ⌝ }
+        ensures { λ r. ⌜ bar-of r ≡ bar-at (frame-of (now (self .entry))) k ⌝ }
+    {
+        Ends {
             one: JointId(self.bars[2 * k]),
             two: JointId(self.bars[2 * k + 1]),
-        })
+        }
     }
 }
 
@@ -85,7 +93,7 @@ fn judge_joints(joints: u64) -> Result<(), Refusal>
     Ok(())
 }
 
-// Row 2: numbers of bars that are not two for each bar, or more than 2,048 bars.
+// Row 2: an odd count of numbers, which is not two for each bar, or more than 2,048 bars.
 fn judge_numbers(bars: &[u16]) -> Result<(), Refusal>
     ensures { λ r. ⌜ Judged r (numbers-row (now (bars .entry))) ⌝ }
 {
@@ -107,9 +115,9 @@ fn judge_ends(joints: u64, bars: &[u16]) -> Result<(), Refusal>
     Ok(())
 }
 
-// Row 4: a bar with twice the same joint, the first.
+// Row 4: a bar with twice the same joint, the first. Row 2 has been judged, so that the number of each bar is small.
 fn judge_apart(bars: &[u16]) -> Result<(), Refusal>
-    requires { ⌜ length (now bars) ≤ 4097 ⌝ }
+    requires { ⌜ length (now bars) / 2 ≤ 2048 ⌝ }
     ensures { λ r. ⌜ Judged r (apart-row (now (bars .entry))) ⌝ }
 {
     for k in 0..bars.len() / 2 {
@@ -174,11 +182,7 @@ impl<'a> BarSet<'a> {
         requires { ⌜ k < length (now (now frame .bars)) / 2 ⌝ }
         ensures { λ r. ⌜ r ≡ among (frame-of (now (frame .entry))) (members (now (joints .entry))) (set-of (now (self .entry))) k ⌝ }
     {
-        let ends = Ends {
-            one: JointId(frame.bars[2 * k]),
-            two: JointId(frame.bars[2 * k + 1]),
-        };
-        self.has_mark(k) && joints.contains_both(ends)
+        self.has_mark(k) && joints.contains_both(frame.ends_at(k))
     }
 
     // Whether the mark at k is 1; past the marks there is none.

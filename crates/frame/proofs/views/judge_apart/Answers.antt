@@ -1,10 +1,10 @@
 use mathlib.Core.Path.{ap}
-use Prim.Native.Nat.{_+_, _*_, _/_}
+use Prim.Native.Nat.{_/_}
 use native.Mathlib.Omega.{arith}
-use lib.Dec.{eqb}
-use lib.ListN.{length, getD}
+use lib.ListN.{length}
 use Rattle.std.proofs.shelf.Tests.{eq-eqb}
 use Rattle.std.specs.Options.{mapped}
+use Rattle.frame.specs.Refusals.{equal-ends}
 use Rattle.frame.specs.declared.refusal.Refusal.the-variants.{EqualEnds}
 use Rattle.sets.proofs.First.{first-some, first-none}
 use Rattle.frame.proofs.views.«judge_apart».Needs as need
@@ -12,9 +12,9 @@ use Rattle.frame.proofs.views.«judge_apart».Needs as need
 pub returns-then-bars-k : need.returns-then-bars-k
 returns-then-bars-k c =
     ap (mapped (λ k. EqualEnds (record { 0 = k })))
-    (first-some (length (c .args .bars .now) / 2) (λ k. eqb (getD (c .args .bars .now) (2 * k) 0) (getD (c .args .bars .now) (2 * k + 1) 0)) (c .loop-k .k) (omega arith) (eq-eqb _ _ (c .if-bars-k .taken)) (c .loop-k .inv))
+    (first-some (length (c .args .bars .now) / 2) (equal-ends (c .args .bars .now)) (c .loop-k .k) (omega arith) (eq-eqb _ _ (c .if-bars-k .taken)) (c .loop-k .inv))
 
 pub returns : need.returns
 returns c =
     ap (mapped (λ k. EqualEnds (record { 0 = k })))
-    (first-none (length (c .args .bars .now) / 2) (λ k. eqb (getD (c .args .bars .now) (2 * k) 0) (getD (c .args .bars .now) (2 * k + 1) 0)) (λ i l. c .loop-k .inv i (omega arith)))
+    (first-none (length (c .args .bars .now) / 2) (equal-ends (c .args .bars .now)) (λ i l. c .loop-k .inv i (omega arith)))

@@ -1,9 +1,9 @@
 use mathlib.Core.Path.{ap}
 use native.Mathlib.Omega.{arith}
-use lib.Dec.{leb}
-use lib.ListN.{length, getD}
+use lib.ListN.{length}
 use Rattle.std.proofs.shelf.Tests.{le-leb}
 use Rattle.std.specs.Options.{mapped}
+use Rattle.frame.specs.Refusals.{past}
 use Rattle.frame.specs.declared.refusal.Refusal.the-variants.{JointPast}
 use Rattle.sets.proofs.First.{first-some, first-none}
 use Rattle.frame.proofs.views.«judge_ends».Needs as need
@@ -11,7 +11,7 @@ use Rattle.frame.proofs.views.«judge_ends».Needs as need
 pub returns-then-joint-joints : need.returns-then-joint-joints
 returns-then-joint-joints c =
     ap (mapped JointPast)
-    (first-some (length (c .args .bars .now)) (λ k. leb (c .args .joints) (getD (c .args .bars .now) k 0)) (c .loop-k .k) (omega arith) (le-leb _ _ (c .if-joint-joints .taken)) (c .loop-k .inv))
+    (first-some (length (c .args .bars .now)) (past (c .args .joints) (c .args .bars .now)) (c .loop-k .k) (omega arith) (le-leb _ _ (c .if-joint-joints .taken)) (c .loop-k .inv))
 
 pub returns : need.returns
-returns c = ap (mapped JointPast) (first-none (length (c .args .bars .now)) (λ k. leb (c .args .joints) (getD (c .args .bars .now) k 0)) (λ i l. c .loop-k .inv i (omega arith)))
+returns c = ap (mapped JointPast) (first-none (length (c .args .bars .now)) (past (c .args .joints) (c .args .bars .now)) (λ i l. c .loop-k .inv i (omega arith)))

@@ -1,22 +1,22 @@
-use mathlib.Core.Path.{refl}
-use Prim.Native.Nat.{_/_, _≤_, _<_}
-use lib.ListN.{length}
+use mathlib.Core.Path.{refl, ap}
+use Prim.Native.Nat.{_≤_, _<_}
 use native.Mathlib.Omega.{arith}
 use Rattle.std.proofs.shelf.Tests.{lt-ltb, le-ltb}
-use Rattle.frame.proofs.Frames.{size-in, bar-in}
+use Rattle.std.specs.declared.option.Option.the-variants.{Some}
+use Rattle.frame.specs.Frame.{size}
+use Rattle.frame.specs.Views.{frame-of}
+use Rattle.frame.proofs.Frames.{size-in}
 use Rattle.frame.proofs.views.Frame.ends.Needs as need
 
-pub returns-then-k-self : need.returns-then-k-self
-returns-then-k-self c =
-    let past : length (c .args .self .now .bars .now) / 2 ≤ c .args .bar .0 = omega arith in
-    rw (size-in (c .args .self .now .bars .now), le-ltb (c .args .bar .0) (length (c .args .self .now .bars .now) / 2) past) refl
+pub ends-at-requires : need.ends-at-requires
+ends-at-requires c κs = omega (arith, size-in (c .args .self .now .bars .now))
+
+pub returns-then-k-bar-count : need.returns-then-k-bar-count
+returns-then-k-bar-count c =
+    let past : size (frame-of (c .args .self .now)) ≤ c .args .bar .0 = omega arith in
+    rw (le-ltb (c .args .bar .0) (size (frame-of (c .args .self .now))) past) refl
 
 pub returns : need.returns
 returns c =
-    let within : c .args .bar .0 < length (c .args .self .now .bars .now) / 2 = omega arith in
-    rw (
-      size-in (c .args .self .now .bars .now),
-      lt-ltb (c .args .bar .0) (length (c .args .self .now .bars .now) / 2) within,
-      bar-in (c .args .self .now .bars .now) (c .args .bar .0) within,
-    )
-    refl
+    let within : c .args .bar .0 < size (frame-of (c .args .self .now)) = omega arith in
+    rw (lt-ltb (c .args .bar .0) (size (frame-of (c .args .self .now))) within) (ap Some (c .ends-at .ensures))
