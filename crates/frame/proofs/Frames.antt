@@ -1,19 +1,17 @@
 -- Laws of lent numbers as a frame: its bars, and that it is sound where no row applies.
-use mathlib.Core.Path.{_≡_, refl, sym, ap, _∙_}
-use mathlib.Core.Bool.{Bool, true, false, _&&_}
-use mathlib.Core.List.{List, map}
-use Prim.Native.Nat.{ℕ, _+_, _*_, _/_, _%_, _≤_, _<_}
+use mathlib.Core.Path.{_≡_, refl}
+use mathlib.Core.Bool.{Bool, true, false}
+use mathlib.Core.List.{List}
+use Prim.Native.Nat.{ℕ, _+_, _*_, _/_, _%_, _<_}
 use native.Mathlib.Omega.{arith}
-use lib.Dec.{ltb, leb, eqb}
+use lib.Dec.{ltb, eqb}
 use lib.ListN.{length, getD}
 use Rattle.std.proofs.shelf.Counted.{length-map-counting, getD-map-counting}
 use Rattle.std.proofs.shelf.Tests.{eqb-false, leb-false, ltb-false, or-parts}
-use Rattle.std.proofs.shelf.Ways.{tells}
 use Rattle.std.specs.declared.option.Option.{Option}
 use Rattle.std.specs.declared.option.Option.the-variants.{Some, None}
-use Rattle.std.specs.Options.{mapped, orOther, whenTrue}
-use Rattle.sets.specs.Sets.{Set, first}
-use Rattle.frame.specs.Frame.{no-bar, among}
+use Rattle.std.specs.Options.{mapped, whenTrue}
+use Rattle.frame.specs.Frame.{no-bar}
 use Rattle.frame.specs.Views.{bars-in, frame-in, Allowed}
 use Rattle.frame.specs.Refusals.{joints-row, numbers-row, ends-row, apart-row, past, equal-ends}
 use Rattle.sets.proofs.First.{none-first}

@@ -1,14 +1,14 @@
 -- The bound of free sets, and what the definitions say of three small frames.
 use mathlib.Core.Path.{_≡_, refl}
-use mathlib.Core.Bool.{true, false}
-use Prim.Native.Nat.{ℕ, _+_, _*_, _≤_, _<_}
+use mathlib.Core.Bool.{true}
+use Prim.Native.Nat.{ℕ, _<_}
 use native.Mathlib.Omega.{arith}
 use lib.ListN.{length}
 use Rattle.std.proofs.shelf.Ways.{tells}
-use Rattle.sets.specs.Sets.{Set, none, below, count}
+use Rattle.sets.specs.Sets.{none, below, count}
 use Rattle.sets.proofs.Counts.{count-all, count-none, count-most}
 use Rattle.frame.specs.Frame.{among, Free, Part, Holds}
-use Rattle.frame.specs.Laws.{Bounded, Empty-free, Small-frames, triangle, square, crossed}
+use Rattle.frame.specs.Laws.{Bounded, Empty-free, Small-frames, triangle, square}
 use Rattle.frame.proofs.Among.{induced-all, induced-most}
 
 -- all joints are a group too, and all bars are among them

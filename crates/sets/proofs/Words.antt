@@ -2,7 +2,7 @@
 use mathlib.Core.Path.{_≡_, refl, sym, ap, _∙_, fun-ext}
 use mathlib.Core.Bool.{Bool, true, false, not, cond, _&&_, _||_}
 use mathlib.Core.List.{List}
-use mathlib.Core.Logic.{_⊎_, inl, inr, ⊎-elim}
+use mathlib.Core.Logic.{_⊎_, inl, inr}
 use Prim.Native.Nat.{ℕ, zero, suc, _+_, _-_, _*_, _/_, _%_, _^_, _≤_, _<_, min}
 use native.Mathlib.Omega.{arith}
 use native.Mathlib.Nat.{zero-div, div-one, pow-suc, mod-eq-of-lt, mod-one}
@@ -268,7 +268,7 @@ of-below n ws k all h =
     (λ j.
     elim (cases-lt (j / 64) 8) [
       | inl l ↦ let e : ltb (j % 64) (n - 64 * (j / 64)) ≡ ltb j (min n 512) = grind (arith, tells) in h .low (j / 64) (omega arith) (j % 64) (omega arith) ∙ e
-      | inr g ↦ rw (getD-past ws (j / 64) 0 (omega (arith, h .size))) (bits-zero (j % 64) ∙ sym (le-ltb j (min n 512) (omega arith)))
+      | inr g ↦ of-past ws j (omega (arith, h .size)) ∙ sym (le-ltb j (min n 512) (omega arith))
     ])
 
 -- a part of a set, by words

@@ -10,10 +10,16 @@ ghost use Rattle.sets.specs.Words.{bits, members};
 use crate::ids::Ends;
 use crate::ids::JointId;
 
+// A set can have the joints below this one.
+pub const CAPACITY: u16 = 512;
+
+// Joint j is bit j % 64 of word j / 64.
+const WORDS: usize = 8;
+
 // A set of joints below 512.
 #[derive(Clone, Copy)]
 pub struct JointSet {
-    words: [u64; 8],
+    words: [u64; WORDS],
 }
 
 impl JointSet {
@@ -21,15 +27,15 @@ impl JointSet {
     pub fn empty() -> JointSet
         ensures { λ r. ⌜ members r ≡ none ⌝ }
     {
-        JointSet { words: [0; 8] }
+        JointSet { words: [0; WORDS] }
     }
 
     // All joints below n, of those that a set can have.
     pub fn below(n: u64) -> JointSet
         ensures { λ r. ⌜ members r ≡ below (min n 512) ⌝ }
     {
-        let mut words = [0; 8];
-        for k in 0..8usize {
+        let mut words = [0; WORDS];
+        for k in 0..WORDS {
             words[k] = low_bits(n.saturating_sub(64 * k as u64));
         }
         JointSet { words }
@@ -41,7 +47,7 @@ impl JointSet {
         ensures past { λ r. ⌜ (512 ≤ joint .0 → r ≡ false) ⌝ }
     {
         let word = joint.0 as usize / 64;
-        if word >= 8 {
+        if word >= WORDS {
             return false;
         }
         self.words[word] >> (joint.0 % 64) & 1 == 1
@@ -60,7 +66,7 @@ impl JointSet {
         ensures after { λ _. ⌜ (joint .0 < 512 → members (now (self .exit)) ≡ also (members (now (self .entry))) (joint .0)) ⌝ }
         ensures past { λ _. ⌜ (512 ≤ joint .0 → now (self .exit) ≡ now (self .entry)) ⌝ }
     {
-        if joint.0 >= 512 || self.contains(joint) {
+        if joint.0 >= CAPACITY || self.contains(joint) {
             return false;
         }
         self.words[joint.0 as usize / 64] |= 1 << (joint.0 % 64);
@@ -84,7 +90,7 @@ impl JointSet {
         ensures { λ r. ⌜ members r ≡ both (members (now (self .entry))) (members (now (other .entry))) ⌝ }
     {
         let mut words = self.words;
-        for k in 0..8usize {
+        for k in 0..WORDS {
             words[k] &= other.words[k];
         }
         JointSet { words }
@@ -95,7 +101,7 @@ impl JointSet {
         ensures { λ r. ⌜ members r ≡ either (members (now (self .entry))) (members (now (other .entry))) ⌝ }
     {
         let mut words = self.words;
-        for k in 0..8usize {
+        for k in 0..WORDS {
             words[k] |= other.words[k];
         }
         JointSet { words }
@@ -105,7 +111,7 @@ impl JointSet {
     pub fn is_subset(&self, other: &JointSet) -> bool
         ensures { λ r. ⌜ Decides r (Within (members (now (self .entry))) (members (now (other .entry)))) ⌝ }
     {
-        for k in 0..8usize {
+        for k in 0..WORDS {
             if self.words[k] | other.words[k] != other.words[k] {
                 return false;
             }
@@ -117,7 +123,7 @@ impl JointSet {
     pub fn first(&self) -> Option<JointId>
         ensures { λ r. ⌜ mapped (λ j. j .0) r ≡ first 512 (members (now (self .entry))) ⌝ }
     {
-        for k in 0..8usize {
+        for k in 0..WORDS {
             if self.words[k] != 0 {
                 return Some(JointId(64 * k as u16 + self.words[k].trailing_zeros() as u16));
             }
@@ -130,8 +136,8 @@ impl JointSet {
         ensures { λ r. ⌜ r ≡ count 512 (members (now (self .entry))) ⌝ }
     {
         let mut n: u64 = 0;
-        for k in 0..8usize {
-            n += self.words[k].count_ones() as u64;
+        for w in 0..WORDS {
+            n += self.words[w].count_ones() as u64;
         }
         n
     }

@@ -4,5 +4,5 @@ use Rattle.sets.specs.Sets.{count}
 use Rattle.sets.specs.Words.{members}
 use Rattle.sets.proofs.joint_set.JointSet.len.Given as given
 
-abbrev pub Inv-loop-k : given.InvT-loop-k
-Inv-loop-k l = (l .n ≡ count (64 * l .k) (members (l .self))) × (l .n ≤ 64 * l .k)
+abbrev pub Inv-loop-w : given.InvT-loop-w
+Inv-loop-w l = (l .n ≡ count (64 * l .w) (members (l .self))) × (l .n ≤ 64 * l .w)
