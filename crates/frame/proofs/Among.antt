@@ -65,7 +65,7 @@ pub induced-same : (f : Frame) (js xs ys : Set) → ((k : ℕ) → k < size f �
 unfolding among
 induced-same f js xs ys h = count-same (size f) _ _ λ k b. ap (λ v. v && (js (bar-at f k .one) && js (bar-at f k .two))) (h k b)
 
--- of two sets of bars, those in one at least and those in both
+-- the union and the intersection of two sets of bars
 pub induced-either-both : (f : Frame) (js xs ys : Set) → induced f js (either xs ys) + induced f js (both xs ys) ≡ induced f js xs + induced f js ys
 unfolding among
 induced-either-both f js xs ys =
@@ -87,7 +87,7 @@ induced-split f js bs t =
       count-same (size f) (among f js (λ k. bs k && not (t k))) (λ k. among f js bs k && not (t k)) (λ k b. grind (arith, tells)),
     )
 
--- the bars among all joints of two groups, and those among the joints of both
+-- the bars among the union of two groups of joints, and those among the intersection
 pub supermodular : Supermodular
 unfolding among
 supermodular f js is bs =

@@ -1,4 +1,4 @@
--- Sets of numbers, by which both joints and bars are told apart, and how many numbers a set has. Assumes nothing: these are definitions.
+-- Sets of numbers, used for joints and for bars, and how many numbers a set has. Assumes nothing: these are definitions.
 use mathlib.Core.Path.{_≡_}
 use mathlib.Core.Bool.{Bool, true, false, cond, not, _&&_, _||_}
 use Prim.Native.Nat.{ℕ, zero, suc, _+_}

@@ -9,6 +9,7 @@ use frame::Lent;
 use frame::Refusal;
 use frame::refusal::RefusalDebug;
 use frame::refusal::RefusalPartialEq;
+use frame::rows::judge_length;
 use sets::ids::EndsDebug;
 use sets::ids::EndsPartialEq;
 use std::alloc::AllocError;
