@@ -27,7 +27,7 @@ unfolding bars-in
 bar-in xs k lt = getD-map-counting (λ k. record { one = getD xs (2 * k) 0; two = getD xs (2 * k + 1) 0 }) 0 (length xs / 2) k k no-bar lt (omega arith)
 
 -- a test that refuses nothing is false, and a search that finds nothing has found nothing
-untaken : {X : Type 0} (t : Bool) (x : X) → whenTrue t x ≡ None → t ≡ false
+pub untaken : {X : Type 0} (t : Bool) (x : X) → whenTrue t x ≡ None → t ≡ false
 untaken true x e = let z : _≡_ {A = ℕ} 0 1 = cc in absurd (omega arith)
 untaken false x e = refl
 

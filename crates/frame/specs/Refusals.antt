@@ -58,6 +58,11 @@ abbrev pub Judged : Result (Unit {0}) Refusal → Option Refusal → Type 0
 Judged (Ok _) row = row ≡ None
 Judged (Err e) row = row ≡ Some e
 
+-- what a call answers: the first of its rows that applies, or, where none does, a value of which more is said
+abbrev pub Answered : {A : Type 0} → (says : A → Type 0) → Result A Refusal → List (Option Refusal) → Type 0
+Answered says (Ok a) rows = (first-of rows ≡ None) × says a
+Answered says (Err e) rows = first-of rows ≡ Some e
+
 -- 1: fewer than 2 joints, or more than 512
 abbrev pub joints-row : ℕ → Option Refusal
 joints-row joints = whenTrue (ltb joints 2 || ltb 512 joints) JointCount

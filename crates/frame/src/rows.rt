@@ -1,6 +1,9 @@
 // The rows that judge marks and room, each a function of its own, for any call that is lent some. `?` joins rows: the first that
 // applies is the answer. The rows that judge a frame stand beside `Frame::new`, which alone judges them.
-ghost use Rattle.frame.specs.Refusals.{Judged, length-row, marks-row};
+ghost use mathlib.Core.Path.{_≡_};
+ghost use lib.ListN.{length};
+ghost use Rattle.sets.specs.Sets.{first};
+ghost use Rattle.frame.specs.Refusals.{Judged, length-row, no-mark, marks-row};
 use crate::refusal::Lent;
 use crate::refusal::Refusal;
 
@@ -21,10 +24,20 @@ pub fn judge_length(lent: Lent, has: usize, wanted: usize) -> Result<(), Refusal
 pub fn judge_marks(marks: &[u8]) -> Result<(), Refusal>
     ensures { λ r. ⌜ Judged r (marks-row (now (marks .entry))) ⌝ }
 {
-    for (k, mark) in marks.iter().enumerate() {
-        if *mark > IN_SET {
-            return Err(Refusal::Mark(k));
+    match first_no_mark(marks) {
+        Some(k) => Err(Refusal::Mark(k)),
+        None => Ok(()),
+    }
+}
+
+// The place of the first number that is neither 0 nor 1, if there is one.
+pub fn first_no_mark(numbers: &[u8]) -> Option<usize>
+    ensures { λ r. ⌜ r ≡ first (length (now (numbers .entry))) (no-mark (now (numbers .entry))) ⌝ }
+{
+    for (k, number) in numbers.iter().enumerate() {
+        if *number > IN_SET {
+            return Some(k);
         }
     }
-    Ok(())
+    None
 }

@@ -128,7 +128,7 @@ fn judge_apart(bars: &[u16]) -> Result<(), Refusal>
     Ok(())
 }
 
-// A set of bars over lent marks, 1 for each bar that is in it. It is made by `new` alone.
+// A set of bars over lent marks, 1 for each bar that is in it.
 #[derive(Clone, Copy)]
 pub struct BarSet<'a> {
     marks: &'a [u8],
@@ -142,6 +142,13 @@ impl<'a> BarSet<'a> {
         judge_length(Lent::Marks, marks.len(), frame.bar_count())?;
         judge_marks(marks)?;
         Ok(BarSet { marks })
+    }
+
+    // The set of the bars that are marked, for marks that have been judged, as by a call that judges several sets at once.
+    pub fn from_marks(marks: &'a [u8]) -> BarSet<'a>
+        ensures { λ r. ⌜ marks-of r ≡ now (marks .entry) ⌝ }
+    {
+        Self { marks }
     }
 
     // Whether a bar is in the set. A bar past the marks is not.

@@ -151,6 +151,11 @@ count-longer n m s h =
     let rest = count-none m (λ k. s (n + k)) λ k _. ⊎-elim (λ y. absurd (omega (arith, h (n + k) y))) (λ o. o) (cases-bool (s (n + k))) in
     omega (arith, count-plus n m s)
 
+-- one number more to sum over, which is in the set or not: the step of a loop
+pub over-step : (n : ℕ) (s : Set) (w : ℕ → ℕ) (b : Bool) → b ≡ s n → over (n + 1) s w ≡ over n s w + cond b (w n) 0
+unfolding over
+over-step n s w b h = rw (add-one n, h) (omega arith)
+
 -- smaller weights have a smaller sum
 pub over-le : (n : ℕ) (js : Set) (v w : ℕ → ℕ) → ((k : ℕ) → k < n → js k ≡ true → v k ≤ w k) → over n js v ≤ over n js w
 unfolding over

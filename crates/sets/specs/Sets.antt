@@ -15,6 +15,10 @@ Set = ℕ → Bool
 abbrev pub none : Set
 none k = false
 
+-- every number
+abbrev pub all : Set
+all k = true
+
 -- all numbers below n
 abbrev pub below : ℕ → Set
 below n k = ltb k n
