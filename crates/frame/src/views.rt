@@ -144,7 +144,8 @@ impl<'a> BarSet<'a> {
         Ok(BarSet { marks })
     }
 
-    // The set of the bars that are marked, for marks that have been judged, as by a call that judges several sets at once.
+    // The set of the bars whose mark is 1, whatever the other marks are: nothing is judged. It is for calls that judge several sets at once, and
+    // make them afterwards.
     pub fn from_marks(marks: &'a [u8]) -> BarSet<'a>
         ensures { λ r. ⌜ marks-of r ≡ now (marks .entry) ⌝ }
     {
