@@ -1,5 +1,7 @@
 // Certificates that a person can count through: a list shows that a set of bars is free, and a sheet shows how many bars a free part
 // of a set can have. Nothing here allocates, and nothing lent is changed.
+#![tactic(auto)]
+
 pub mod checkers;
 pub mod laws;
 pub mod verdict;

@@ -1,4 +1,6 @@
 // Checks lists and sheets, and prints what they show. They are not read from files yet, so it checks some that are built in.
+#![tactic(auto)]
+
 use certificate::{
     LargestVerdict, ListVerdict, Overfull, SheetVerdict, check_largest, check_list, check_sheet,
 };

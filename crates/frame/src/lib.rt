@@ -1,5 +1,7 @@
 // Frames of joints and bars, sets of bars, and what is refused. Nothing here allocates: all works on lent slices and words.
 // Texts say pin where the code says joint.
+#![tactic(auto)]
+
 pub mod laws;
 pub mod refusal;
 pub mod rows;

@@ -1,4 +1,6 @@
 // Looks at a frame and prints what can be said of it. Frames are not read from files yet, so it looks at one that is built in.
+#![tactic(auto)]
+
 ghost use Rattle.sets.specs.Words.{members};
 ghost use Rattle.look.specs.Tallied.{Tallied};
 

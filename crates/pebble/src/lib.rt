@@ -1,4 +1,6 @@
 // The pebble game: bars given to their ends, two slots a joint, and moved on from joint to joint to make room.
+#![tactic(auto)]
+
 pub mod board;
 pub mod fault;
 pub mod item;

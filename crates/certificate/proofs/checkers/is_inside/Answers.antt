@@ -9,7 +9,7 @@ use Rattle.certificate.proofs.checkers.is_inside.Goals as goal
 
 pub returns-in-Some : goal.returns-in-Some
 returns-in-Some c =
-    c.contains-both.ensures
+    c.contains_both.ensures
     ∙ among_is (frame_of c.args.frame.now) (members c.args.group.now) all c.args.k (bar_of c.in-Some.ends) true (sym (some_is _ _ _ c.in-Some.ensures).1) refl
 
 pub returns-in-None : goal.returns-in-None

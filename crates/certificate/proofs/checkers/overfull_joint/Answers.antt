@@ -6,8 +6,8 @@ use Rattle.frame.specs.Views.{frame_of, set_of}
 use Rattle.certificate.specs.Lists.{crowded, row_in}
 use Rattle.certificate.proofs.checkers.overfull_joint.Goals as goal
 
-pub returns-then-counts-joint-gt-MOST-GIVEN : goal.returns-then-counts-joint-gt-MOST-GIVEN
-returns-then-counts-joint-gt-MOST-GIVEN c =
+pub returns-then-counts-joint-gt-MOST_GIVEN : goal.returns-then-counts-joint-gt-MOST_GIVEN
+returns-then-counts-joint-gt-MOST_GIVEN c =
     let f = frame_of c.args.frame.now in
     sym
     (first_some f.joints (crowded f (set_of c.args.set.now) c.args.own.0 (row_in f c.args.own.0 c.args.row.now)) c.joints.joint

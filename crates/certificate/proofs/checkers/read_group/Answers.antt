@@ -3,7 +3,7 @@ use Rattle.sets.specs.Sets.{also, below, both}
 use Rattle.frame.specs.Views.{set_in}
 use Rattle.certificate.proofs.Groups.{below_none, below_more, below_skip, below_all}
 use Rattle.certificate.proofs.checkers.read_group.Goals as goal
-use Rattle.certificate.proofs.checkers.read_group.Goals.{then-mark-eq-IN-SET, else-mark-eq-IN-SET}
+use Rattle.certificate.proofs.checkers.read_group.Goals.{then-mark-eq-IN_SET, else-mark-eq-IN_SET}
 use Rattle.sets.specs.Words.{members}
 use Rattle.std.proofs.lemmas.Bool.{eq-eqb, ne_eqb}
 
@@ -13,9 +13,9 @@ loop-j-init c = c.empty-group.ensures ∙ below_none (set_in c.args.marks.now)
 pub loop-j-preserved : goal.loop-j-preserved
 unfolding set_in
 loop-j-preserved c =
-    elim c.if-mark-eq-IN-SET.branch [
-      | then-mark-eq-IN-SET w ↦ ap members w.group_is ∙ w.insert.ensures.after (omega arith) ∙ ap (λ s. also s c.loop-j.j) c.loop-j.invariant ∙ below_more (set_in c.args.marks.now) c.loop-j.j (eq-eqb _ _ w.if-mark-eq-IN-SET.true)
-      | else-mark-eq-IN-SET w ↦ ap members w.group_is ∙ c.loop-j.invariant ∙ below_skip (set_in c.args.marks.now) c.loop-j.j (ne_eqb _ _ w.if-mark-eq-IN-SET.false)
+    elim c.if-mark-eq-IN_SET.branch [
+      | then-mark-eq-IN_SET w ↦ ap members w.group_is ∙ w.insert.ensures.after (omega arith) ∙ ap (λ s. also s c.loop-j.j) c.loop-j.invariant ∙ below_more (set_in c.args.marks.now) c.loop-j.j (eq-eqb _ _ w.if-mark-eq-IN_SET.true)
+      | else-mark-eq-IN_SET w ↦ ap members w.group_is ∙ c.loop-j.invariant ∙ below_skip (set_in c.args.marks.now) c.loop-j.j (ne_eqb _ _ w.if-mark-eq-IN_SET.false)
     ]
 
 pub returns : goal.returns

@@ -12,29 +12,29 @@ pub loop-g-init : goal.loop-g-init
 loop-g-init c =
     let f = frame_of c.args.frame.now in
     let alone = c.len-bound.ensures ∙ ap (λ n. count n (set_of c.args.alone.now)) c.requires.marks in
-    surveyed_none f (sheet_in f c.args.groups.now (marks_of c.args.alone.now)) c.none-covered-covered.result c.len-bound.result c.none-covered-covered.ensures c.requires.sound.most_bars alone
+    surveyed_none f (sheet_in f c.args.groups.now (marks_of c.args.alone.now)) c.none_covered-covered.result c.len-bound.result c.none_covered-covered.ensures c.requires.sound.most_bars alone
     (omega (arith, alone, c.requires.sound.most_bars, count_most (size f) (set_of c.args.alone.now)))
 
-pub group-at-group-requires : goal.group-at-group-requires
-group-at-group-requires c = record { sound = c.requires.sound; whole = c.requires.whole; within = omega arith }
+pub group_at-group-requires : goal.group_at-group-requires
+group_at-group-requires c = record { sound = c.requires.sound; whole = c.requires.whole; within = omega arith }
 
-pub overflow-mul-bound : goal.overflow-mul-bound
-overflow-mul-bound c = omega (arith, c.len-joints.ensures, count_most 512 (members c.group-at-group.result))
+pub overflow_mul-bound : goal.overflow_mul-bound
+overflow_mul-bound c = omega (arith, c.len-joints.ensures, count_most 512 (members c.group_at-group.result))
 
-pub overflow-add-bound : goal.overflow-add-bound
-overflow-add-bound c = omega (arith, c.requires.few, c.loop-g.invariant.small, c.len-joints.ensures, count_most 512 (members c.group-at-group.result))
+pub overflow_add-bound : goal.overflow_add-bound
+overflow_add-bound c = omega (arith, c.requires.few, c.loop-g.invariant.small, c.len-joints.ensures, count_most 512 (members c.group_at-group.result))
 
 pub loop-g-preserved : goal.loop-g-preserved
 loop-g-preserved c =
     let f = frame_of c.args.frame.now in
-    surveyed_more f (sheet_in f c.args.groups.now (marks_of c.args.alone.now)) c.loop-g.covered c.cover.new.covered c.loop-g.bound c.loop-g.g c.len-joints.result (members c.group-at-group.result) c.loop-g.invariant
-    c.group-at-group.ensures.value (c.len-joints.ensures ∙ c.group-at-group.ensures.joints) c.if-joints-lt-LEAST-GROUP.false (omega (arith, c.len-joints.ensures, count_most 512 (members c.group-at-group.result))) c.cover.ensures
+    surveyed_more f (sheet_in f c.args.groups.now (marks_of c.args.alone.now)) c.loop-g.covered c.cover.new.covered c.loop-g.bound c.loop-g.g c.len-joints.result (members c.group_at-group.result) c.loop-g.invariant
+    c.group_at-group.ensures.value (c.len-joints.ensures ∙ c.group_at-group.ensures.joints) c.if-joints-lt-LEAST_GROUP.false (omega (arith, c.len-joints.ensures, count_most 512 (members c.group_at-group.result))) c.cover.ensures
 
-pub returns-then-joints-lt-LEAST-GROUP : goal.returns-then-joints-lt-LEAST-GROUP
-returns-then-joints-lt-LEAST-GROUP c =
+pub returns-then-joints-lt-LEAST_GROUP : goal.returns-then-joints-lt-LEAST_GROUP
+returns-then-joints-lt-LEAST_GROUP c =
     let f = frame_of c.args.frame.now in
     says_small f (set_of c.args.set.now) (sheet_in f c.args.groups.now (marks_of c.args.alone.now)) c.loop-g.covered c.loop-g.bound c.loop-g.g c.loop-g.invariant (omega arith)
-    (omega (arith, c.if-joints-lt-LEAST-GROUP.true, c.len-joints.ensures ∙ c.group-at-group.ensures.joints ∙ ap (count f.joints) c.group-at-group.ensures.value))
+    (omega (arith, c.if-joints-lt-LEAST_GROUP.true, c.len-joints.ensures ∙ c.group_at-group.ensures.joints ∙ ap (count f.joints) c.group_at-group.ensures.value))
 
 pub returns-in-Some : goal.returns-in-Some
 returns-in-Some c =

@@ -3,10 +3,10 @@ use Rattle.frame.specs.Views.{frame_of, set_of}
 use Rattle.certificate.proofs.Facts.{none_is}
 use Rattle.certificate.proofs.Tallies.{given_joint, tallied_none, tallied_skip, tallied_more, tallied_le, tallied_all}
 use Rattle.certificate.proofs.checkers.tally.Goals as goal
-use Rattle.certificate.proofs.checkers.tally.Goals.{in-Some, in-default}
+use Rattle.certificate.proofs.checkers.tally.Goals.{in-Some, in_default}
 
 pub loop-i-init : goal.loop-i-init
-loop-i-init c = tallied_none (frame_of c.args.frame.now) (set_of c.args.set.now) c.args.own.0 c.args.row.now c.no-counts-counts.result c.no-counts-counts.ensures
+loop-i-init c = tallied_none (frame_of c.args.frame.now) (set_of c.args.set.now) c.args.own.0 c.args.row.now c.no_counts-counts.result c.no_counts-counts.ensures
 
 pub bounds-counts-joint : goal.bounds-counts-joint
 bounds-counts-joint c = (given_joint (frame_of c.args.frame.now) (set_of c.args.set.now) c.args.own.0 c.loop-i.i _ c.in-Some.joint.0 c.requires.sound c.requires.bar c.in-Some.ensures).2
@@ -14,19 +14,19 @@ bounds-counts-joint c = (given_joint (frame_of c.args.frame.now) (set_of c.args.
 pub bounds-counts-joint-in-Some : goal.bounds-counts-joint-in-Some
 bounds-counts-joint-in-Some c = (given_joint (frame_of c.args.frame.now) (set_of c.args.set.now) c.args.own.0 c.loop-i.i _ c.in-Some.joint.0 c.requires.sound c.requires.bar c.in-Some.ensures).2
 
-pub overflow-add-counts : goal.overflow-add-counts
-overflow-add-counts c =
+pub overflow_add-counts : goal.overflow_add-counts
+overflow_add-counts c =
     let g = given_joint (frame_of c.args.frame.now) (set_of c.args.set.now) c.args.own.0 c.loop-i.i _ c.in-Some.joint.0 c.requires.sound c.requires.bar c.in-Some.ensures in
     omega (arith, c.requires.whole, c.requires.sound.most_bars, tallied_le (frame_of c.args.frame.now) (set_of c.args.set.now) c.args.own.0 c.args.row.now c.loop-i.i c.loop-i.counts c.in-Some.joint.0 c.loop-i.invariant g.2)
 
 pub loop-i-preserved : goal.loop-i-preserved
 loop-i-preserved c =
-    elim c.match-given-to.branch [
+    elim c.match-given_to.branch [
       | in-Some w ↦
           (let g = given_joint (frame_of c.args.frame.now) (set_of c.args.set.now) c.args.own.0 c.loop-i.i _ w.in-Some.joint.0 c.requires.sound c.requires.bar w.in-Some.ensures in
           rw w.counts-is (tallied_more (frame_of c.args.frame.now) (set_of c.args.set.now) c.args.own.0 c.args.row.now c.loop-i.i w.in-Some.joint.0 c.loop-i.counts c.loop-i.invariant g.0 g.1 g.2))
-      | in-default w ↦
-          rw w.counts-is (tallied_skip (frame_of c.args.frame.now) (set_of c.args.set.now) c.args.own.0 c.args.row.now c.loop-i.i c.loop-i.counts c.loop-i.invariant (none_is _ _ w.in-default.ensures))
+      | in_default w ↦
+          rw w.counts-is (tallied_skip (frame_of c.args.frame.now) (set_of c.args.set.now) c.args.own.0 c.args.row.now c.loop-i.i c.loop-i.counts c.loop-i.invariant (none_is _ _ w.in_default.ensures))
     ]
 
 pub returns : goal.returns

@@ -3,10 +3,10 @@ use Rattle.pebble.proofs.Tables.{pair_stands}
 use Rattle.pebble.proofs.Gathers.{standing_of, facts_moved, gather_same}
 use Rattle.pebble.proofs.board.Board.gather.Goals as goal
 
-pub gather-in-requires : goal.gather-in-requires
-gather-in-requires c =
+pub gather_in-requires : goal.gather_in-requires
+gather_in-requires c =
     let b = c.args.self.now in
-    let pair = pair_stands b.joints c.args.u.0 c.args.v.0 c.in-ok-judge-pair.ensures in
+    let pair = pair_stands b.joints c.args.u.0 c.args.v.0 c.in_ok-judge_pair.ensures in
     record {
       standing = standing_of b.joints b.slots (b.few, (b.whole, (b.ends, (b.apart, (b.once, tt)))));
       u_inside = omega (arith, pair.0, b.few);
@@ -14,8 +14,8 @@ gather-in-requires c =
       differ = pair.2;
     }
 
-pub invariant-of-self : goal.invariant-of-self
-invariant-of-self c =
+pub invariant_of-self : goal.invariant_of-self
+invariant_of-self c =
     let b = c.args.self.now in
-    facts_moved b.joints b.slots c.gather-in.new.slots (gather_same 512 _ _ _ _ c.gather-in.result _ c.gather-in.ensures.says) c.gather-in.ensures.standing
+    facts_moved b.joints b.slots c.gather_in.new.slots (gather_same 512 _ _ _ _ c.gather_in.result _ c.gather_in.ensures.says) c.gather_in.ensures.standing
     (b.few, (b.whole, (b.ends, (b.apart, (b.once, tt)))))

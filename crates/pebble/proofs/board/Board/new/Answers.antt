@@ -4,9 +4,9 @@ use Rattle.pebble.specs.declared.item.Item.{Item}
 use Rattle.pebble.proofs.Tables.{nothing_lies}
 use Rattle.pebble.proofs.board.Board.new.Goals as goal
 
-pub invariant-of-result : goal.invariant-of-result
-invariant-of-result c =
-    let empty = c.empty-table.ensures in (
+pub invariant_of-result : goal.invariant_of-result
+invariant_of-result c =
+    let empty = c.empty_table.ensures in (
       omega arith,
       (
         ap length empty ∙ length-replicate {A = Option Item} 1024 None,

@@ -5,28 +5,28 @@ use Rattle.pebble.specs.Slots.{Slots}
 use Rattle.pebble.specs.Links.{Searchable}
 use Rattle.pebble.proofs.Backwards.{Kept, kept_none, kept_passed, kept_out, kept_dropped, kept_all, linked_all}
 use Rattle.pebble.proofs.board.Board.unreaching.Goals as goal
-use Rattle.pebble.proofs.board.Board.unreaching.Goals.{then-is-outlet+then-remove, else-is-outlet, else-is-outlet-via-then-is-outlet+else-remove, else-is-outlet-via-else-is-outlet}
+use Rattle.pebble.proofs.board.Board.unreaching.Goals.{then-is_outlet+then-remove, else-is_outlet, else-is_outlet-via-then-is_outlet+else-remove, else-is_outlet-via-else-is_outlet}
 
 pub loop-j-init : goal.loop-j-init
 loop-j-init c = kept_none _ _ _ _ _ c.args.self.now.few c.below-rest.ensures
 
-pub drop-behind-requires : goal.drop-behind-requires
-drop-behind-requires c =
+pub drop_behind-requires : goal.drop_behind-requires
+drop_behind-requires c =
     let board = c.args.self.now in
     subst (λ (s : Slots). Searchable s c.over-links.result.last c.over-links.result.before c.loop-j.j) (sym c.over-links.ensures.same)
     (linked_all _ _ _ _ _ board.few board.ends board.apart c.over-links.ensures.linked (omega (arith, board.few)))
 
 pub loop-j-preserved : goal.loop-j-preserved
 loop-j-preserved c =
-    elim c.if-is-outlet.branch [
-      | then-is-outlet+then-remove w ↦
+    elim c.if-is_outlet.branch [
+      | then-is_outlet+then-remove w ↦
           rw w.rest-is
-          (kept_dropped _ _ _ _ _ _ _ _ c.loop-j.invariant c.loop-j-test.true (sym w.if-is-outlet.ensures) w.remove.ensures.after w.drop-behind.ensures)
-      | else-is-outlet w ↦ elim w.else-is-outlet.branch [
-        | else-is-outlet-via-then-is-outlet+else-remove w' ↦
+          (kept_dropped _ _ _ _ _ _ _ _ c.loop-j.invariant c.loop-j-test.true (sym w.if-is_outlet.ensures) w.remove.ensures.after w.drop_behind.ensures)
+      | else-is_outlet w ↦ elim w.else-is_outlet.branch [
+        | else-is_outlet-via-then-is_outlet+else-remove w' ↦
             rw (w.rest-is, w'.rest-is) (kept_out _ _ _ _ _ _ _ c.loop-j.invariant (sym w'.if-remove.ensures.value) w'.remove.ensures.after)
-        | else-is-outlet-via-else-is-outlet w' ↦
-            rw (w.rest-is, w'.rest-is) (kept_passed _ _ _ _ _ _ c.loop-j.invariant (sym w'.if-is-outlet.ensures))
+        | else-is_outlet-via-else-is_outlet w' ↦
+            rw (w.rest-is, w'.rest-is) (kept_passed _ _ _ _ _ _ c.loop-j.invariant (sym w'.if-is_outlet.ensures))
       ]
     ]
 

@@ -4,11 +4,11 @@ use Rattle.pebble.proofs.Searches.{unseen, Sofar}
 use Rattle.pebble.proofs.board.moves.+find_room_move_on.Given as goal
 
 -- each call for another joint leaves fewer joints unseen; `find_room` calls `move_on` for the same joint
-abbrev pub decreases-find-room : goal.decreases-find-room
-decreases-find-room l = 2 * unseen (members l.seen.now) + 1
+abbrev pub decreases-find_room : goal.decreases-find_room
+decreases-find_room l = 2 * unseen (members l.seen.now) + 1
 
-abbrev pub decreases-move-on : goal.decreases-move-on
-decreases-move-on l = 2 * unseen (members l.seen.now)
+abbrev pub decreases-move_on : goal.decreases-move_on
+decreases-move_on l = 2 * unseen (members l.seen.now)
 
-abbrev pub invariant-move-on-loop-slot : goal.invariant-move-on-loop-slot
-invariant-move-on-loop-slot l = (l.slots ≡ l.initial.slots) × Sofar l.initial.slots (members l.initial.seen) l.joint.0 l.slot (members l.seen)
+abbrev pub invariant-move_on-loop-slot : goal.invariant-move_on-loop-slot
+invariant-move_on-loop-slot l = (l.slots ≡ l.initial.slots) × Sofar l.initial.slots (members l.initial.seen) l.joint.0 l.slot (members l.seen)

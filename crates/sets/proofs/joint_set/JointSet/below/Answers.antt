@@ -7,8 +7,8 @@ loop-k-init c = record { size = refl; low = λ w l. absurd (omega arith) }
 
 pub loop-k-preserved : goal.loop-k-preserved
 loop-k-preserved c =
-    low_more c.args.n c.loop-k.words c.loop-k.k c.low-bits.result c.loop-k-test.true
-    (λ i l. c.low-bits.ensures i l ∙ ap (ltb i) c.saturating-sub.ensures) c.loop-k.invariant
+    low_more c.args.n c.loop-k.words c.loop-k.k c.low_bits.result c.loop-k-test.true
+    (λ i l. c.low_bits.ensures i l ∙ ap (ltb i) c.saturating_sub.ensures) c.loop-k.invariant
 
 pub returns : goal.returns
 returns c = of_below c.args.n c.loop-k.words c.loop-k.k c.loop-k-test.false c.loop-k.invariant

@@ -8,11 +8,11 @@ pub loop-w-init : goal.loop-w-init
 unfolding count
 loop-w-init c = (refl, omega arith)
 
-pub overflow-cast-n : goal.overflow-cast-n
-overflow-cast-n c = omega (arith, ones-le 64 (get_or c.args.self.now.words c.loop-w.w 0) (omega arith))
+pub overflow_cast-n : goal.overflow_cast-n
+overflow_cast-n c = omega (arith, ones-le 64 (get_or c.args.self.now.words c.loop-w.w 0) (omega arith))
 
-pub overflow-add-n : goal.overflow-add-n
-overflow-add-n c = omega (arith, ones-le 64 (get_or c.args.self.now.words c.loop-w.w 0) (omega arith))
+pub overflow_add-n : goal.overflow_add-n
+overflow_add-n c = omega (arith, ones-le 64 (get_or c.args.self.now.words c.loop-w.w 0) (omega arith))
 
 pub loop-w-preserved : goal.loop-w-preserved
 loop-w-preserved c =

@@ -10,8 +10,8 @@ use Rattle.pebble.proofs.board.links.Links.+drop_behind.Goals.{then-remove, else
 pub loop-next-init : goal.loop-next-init
 loop-next-init t c = sofar_first _ _ _ _ _ c.requires
 
-pub drop-behind-requires : goal.drop-behind-requires
-drop-behind-requires t c =
+pub drop_behind-requires : goal.drop_behind-requires
+drop_behind-requires t c =
     let so = c.loop-next.invariant c.args.joint.0 c.requires.joint refl in
     let h = sofar_call _ _ _ _ _ _ _ _ (members c.remove.new.self) c.requires so c.in-Some.is c.if-remove.ensures.value c.remove.ensures.after in
     (subst (λ n. count 512 (members c.remove.new.self) < n) c.decreases h.0, h.1)
@@ -32,11 +32,11 @@ loop-next-preserved t c j small e =
     let pre = also_from _ _ _ _ j c.requires small in
     let so = c.loop-next.invariant j small e in
     elim c.if-remove.branch [
-      | then-remove w ↦ rw w.rest-is (sofar_taken _ _ _ _ _ _ _ _ _ _ pre so c.in-Some.is c.remove.ensures.after w.drop-behind.ensures)
+      | then-remove w ↦ rw w.rest-is (sofar_taken _ _ _ _ _ _ _ _ _ _ pre so c.in-Some.is c.remove.ensures.after w.drop_behind.ensures)
       | else-remove w ↦ rw w.rest-is (sofar_out _ _ _ _ _ _ _ _ _ pre so c.in-Some.is w.if-remove.ensures.value c.remove.ensures.after)
     ]
 
 pub returns : goal.returns
 returns t c =
     let so = c.loop-next.invariant c.args.joint.0 c.requires.joint refl in
-    subst (λ o. Dropped c.args.self.now.slots.now (members c.args.rest.now) c.args.joint.0 (past o) (members c.loop-next.rest)) c.in-default.is so.dropped
+    subst (λ o. Dropped c.args.self.now.slots.now (members c.args.rest.now) c.args.joint.0 (past o) (members c.loop-next.rest)) c.in_default.is so.dropped

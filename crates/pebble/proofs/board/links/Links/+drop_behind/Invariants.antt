@@ -5,8 +5,8 @@ use Rattle.sets.specs.Words.{members}
 use Rattle.pebble.proofs.Backwards.{past, SofarFrom}
 use Rattle.pebble.proofs.board.links.Links.+drop_behind.Given as goal
 
-abbrev pub decreases-drop-behind : goal.decreases-drop-behind
-decreases-drop-behind l = count 512 (members l.rest.now)
+abbrev pub decreases-drop_behind : goal.decreases-drop_behind
+decreases-drop_behind l = count 512 (members l.rest.now)
 
 abbrev pub invariant-loop-next : goal.invariant-loop-next
 invariant-loop-next l = SofarFrom l.self.slots.now l.self.last (members l.initial.rest) l.initial.next l.next (members l.rest)

@@ -2,22 +2,22 @@
 use Rattle.std.proofs.Common.{arith}
 use Rattle.pebble.proofs.Backwards.{linking_none, linking_empty, linking_item, other_small}
 use Rattle.pebble.proofs.board.links.Links.over.Goals as goal
-use Rattle.pebble.proofs.board.links.Links.over.Goals.{in-Some, in-default}
+use Rattle.pebble.proofs.board.links.Links.over.Goals.{in-Some, in_default}
 
 pub loop-slot-init : goal.loop-slot-init
-loop-slot-init c = linking_none _ _ _ c.no-joints-last.ensures c.no-slots-before.ensures
+loop-slot-init c = linking_none _ _ _ c.no_joints-last.ensures c.no_slots-before.ensures
 
 pub bounds-last-to : goal.bounds-last-to
-bounds-last-to c = other_small _ _ _ _ _ _ c.requires.0 c.requires.1 c.in-Some.is c.other-end-to.ensures
+bounds-last-to c = other_small _ _ _ _ _ _ c.requires.0 c.requires.1 c.in-Some.is c.other_end-to.ensures
 
 pub bounds-last-to-in-Some : goal.bounds-last-to-in-Some
-bounds-last-to-in-Some c = other_small _ _ _ _ _ _ c.requires.0 c.requires.1 c.in-Some.is c.other-end-to.ensures
+bounds-last-to-in-Some c = other_small _ _ _ _ _ _ c.requires.0 c.requires.1 c.in-Some.is c.other_end-to.ensures
 
 pub loop-slot-preserved : goal.loop-slot-preserved
 loop-slot-preserved c =
     elim c.match-slots-slot.branch [
       | in-Some w ↦
-          let small = other_small _ _ _ _ _ _ c.requires.0 c.requires.1 w.in-Some.is w.other-end-to.ensures in
-          linking_item _ _ _ _ _ _ _ _ c.loop-slot.invariant (omega arith) small w.in-Some.is w.other-end-to.ensures w.last_is w.before-is
-      | in-default w ↦ linking_empty _ _ _ _ _ _ c.loop-slot.invariant w.in-default.is w.last_is w.before-is
+          let small = other_small _ _ _ _ _ _ c.requires.0 c.requires.1 w.in-Some.is w.other_end-to.ensures in
+          linking_item _ _ _ _ _ _ _ _ c.loop-slot.invariant (omega arith) small w.in-Some.is w.other_end-to.ensures w.last_is w.before-is
+      | in_default w ↦ linking_empty _ _ _ _ _ _ c.loop-slot.invariant w.in_default.is w.last_is w.before-is
     ]
