@@ -14,8 +14,8 @@ pub loop-j-preserved : goal.loop-j-preserved
 unfolding set_in
 loop-j-preserved c =
     elim c.if-mark-eq-IN_SET.branch [
-      | then-mark-eq-IN_SET w ↦ ap members w.group_is ∙ w.insert.ensures.after (omega arith) ∙ ap (λ s. also s c.loop-j.j) c.loop-j.invariant ∙ below_more (set_in c.args.marks.now) c.loop-j.j (eq-eqb _ _ w.if-mark-eq-IN_SET.true)
-      | else-mark-eq-IN_SET w ↦ ap members w.group_is ∙ c.loop-j.invariant ∙ below_skip (set_in c.args.marks.now) c.loop-j.j (ne_eqb _ _ w.if-mark-eq-IN_SET.false)
+      | then-mark-eq-IN_SET w ↦ ap members w.group-is ∙ w.insert.ensures.after (omega arith) ∙ ap (λ s. also s c.loop-j.j) c.loop-j.invariant ∙ below_more (set_in c.args.marks.now) c.loop-j.j (eq-eqb _ _ w.if-mark-eq-IN_SET.true)
+      | else-mark-eq-IN_SET w ↦ ap members w.group-is ∙ c.loop-j.invariant ∙ below_skip (set_in c.args.marks.now) c.loop-j.j (ne_eqb _ _ w.if-mark-eq-IN_SET.false)
     ]
 
 pub returns : goal.returns
