@@ -93,16 +93,19 @@ reached slots between after u v seen now_seen first then_second = (
 
 -- what a board states of its table is asked for before a move, and holds after it
 pub standing_of : (n : ℕ) (slots : Slots) → Facts n slots → Standing slots
-standing_of n slots (few, (whole, (ends, (apart, (once, _))))) = record {
-  whole = whole;
-  settled = record { ends = ends; apart = λ s x lies. let a = apart s x lies in (omega arith, omega arith, a.2); once = once };
+standing_of n slots f = record {
+  whole = f.whole;
+  settled = record { ends = f.ends; apart = λ s x lies. let a = f.apart s x lies in (omega (arith, a.0), omega (arith, a.1), a.2); once = f.once };
 }
 
 pub facts_moved : (n : ℕ) (before after : Slots) → SameItems before after → Standing after → Facts n before → Facts n after
-facts_moved n before after same st (few, (whole, (ends, (apart, (once, _))))) = (
-  few,
-  (st.whole, (st.settled.ends, (λ s x lies. let h = (same x).1 (s, lies) in apart h.0 x h.1, (st.settled.once, tt)))),
-)
+facts_moved n before after same st f = record {
+  few = f.few;
+  whole = st.whole;
+  ends = st.settled.ends;
+  apart = λ s x lies. let h = (same x).1 (s, lies) in f.apart h.0 x h.1;
+  once = st.settled.once;
+}
 
 -- nothing moved, so the board stands as it did and the same items are placed
 pub still_stands : (before after : Slots) → after ≡ before → Standing before → Standing after

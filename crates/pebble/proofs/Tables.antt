@@ -57,8 +57,12 @@ not_found slots end s k f past before =
     sym (first_none 1024 _ (λ t b. elim (cases_lt t s) [ inl l ↦ before t l | inr g ↦ rw (f.rest t (omega arith)) refl ]))
 
 -- what a board of n joints states of its table
-abbrev pub Facts : (n : ℕ) → Slots → Type 0
-Facts n slots = (n ≤ 512) × ((length slots ≡ 1024) × (AtEnds slots × (Apart n slots × (Once slots × Unit {0}))))
+pub record Facts (n : ℕ) (slots : Slots) : Type 0 where
+  pub few : n ≤ 512
+  pub whole : length slots ≡ 1024
+  pub ends : AtEnds slots
+  pub apart : Apart n slots
+  pub once : Once slots
 
 -- where an item lies after a slot was written: as before, or there
 pub lies_set : (slots : Slots) (s : ℕ) (o : Option Item) (t : ℕ) (y : Item) → s < length slots → Lies (set slots s o) t y → ((t ≡ s) × (o ≡ Some y)) ⊎ ((t ≡ s → ⊥) × Lies slots t y)
@@ -70,13 +74,13 @@ lies_set slots s o t y lt lies =
 
 -- a slot is emptied
 pub facts_cleared : (n : ℕ) (slots : Slots) (s : ℕ) → s < 1024 → Facts n slots → Facts n (set slots s None)
-facts_cleared n slots s lt (few, (whole, (ends, (apart, (once, _))))) = (
-  few,
-  (
-    length-set slots s None ∙ whole,
-    (λ t y lies. ends t y (was t y lies), (λ t y lies. apart t y (was t y lies), (λ t r both. once t r (both.0, both.1, was t _ both.2, was r _ both.3, both.4), tt))),
-  ),
-)
+facts_cleared n slots s lt f = record {
+  few = f.few;
+  whole = length-set slots s None ∙ f.whole;
+  ends = λ t y lies. f.ends t y (was t y lies);
+  apart = λ t y lies. f.apart t y (was t y lies);
+  once = λ t r both. f.once t r (both.0, both.1, was t _ both.2, was r _ both.3, both.4);
+}
   where
     was : (t : ℕ) (y : Item) → Lies (set slots s None) t y → Lies slots t y
     was t y lies = elim (lies_set slots s None t y (omega arith) lies) [ inl e ↦ absurd (some_none None y e.1 refl) | inr l ↦ l.1 ]
@@ -93,28 +97,25 @@ absent slots k whole none s x lies is =
 pub facts_written :
     (n : ℕ) (slots : Slots) (s : ℕ) (x : Item) → s < 1024 → is_end x (s / 2) ≡ true → one x < n → two x < n → (one x ≡ two x → ⊥) → where_is slots (name x) ≡ None →
     Facts n slots → Facts n (set slots s (Some x))
-facts_written n slots s x lt end o t differ new (few, (whole, (ends, (apart, (once, _))))) = (
-  few,
-  (
-    length-set slots s (Some x) ∙ whole,
-    (
-      λ r y lies. elim (was r y lies) [ inl e ↦ rw (e.0, e.1) end | inr l ↦ ends r y l.1 ],
-      (λ r y lies. elim (was r y lies) [ inl e ↦ rw e.1 (o, t, differ) | inr l ↦ apart r y l.1 ], (single, tt)),
-    ),
-  ),
-)
+facts_written n slots s x lt end o t differ new f = record {
+  few = f.few;
+  whole = length-set slots s (Some x) ∙ f.whole;
+  ends = λ r y lies. elim (was r y lies) [ inl e ↦ rw (e.0, e.1) end | inr l ↦ f.ends r y l.1 ];
+  apart = λ r y lies. elim (was r y lies) [ inl e ↦ rw e.1 (o, t, differ) | inr l ↦ f.apart r y l.1 ];
+  once = single;
+}
   where
     was : (r : ℕ) (y : Item) → Lies (set slots s (Some x)) r y → ((r ≡ s) × (y ≡ x)) ⊎ ((r ≡ s → ⊥) × Lies slots r y)
     was r y lies = elim (lies_set slots s (Some x) r y (omega arith) lies) [ inl e ↦ (let d : y ≡ x = cc e.1 in inl (e.0, d)) | inr l ↦ inr l ]
 
     lone : (r : ℕ) (y z : Item) → z ≡ x → name y ≡ name z → Lies slots r y → ⊥
-    lone r y z e same lies = absent slots (name x) whole new r y lies (same ∙ ap (λ i. i.bar.0) e)
+    lone r y z e same lies = absent slots (name x) f.whole new r y lies (same ∙ ap (λ i. i.bar.0) e)
 
     single : Once (set slots s (Some x))
     single r q both =
         elim (was r both.0 both.2) [
           | inl e ↦ elim (was q both.1 both.3) [ inl d ↦ e.0 ∙ sym d.0 | inr l ↦ absurd (lone q both.1 both.0 e.1 (sym both.4) l.1) ]
-          | inr k ↦ elim (was q both.1 both.3) [ inl d ↦ absurd (lone r both.0 both.1 d.1 both.4 k.1) | inr l ↦ once r q (both.0, both.1, k.1, l.1, both.4) ]
+          | inr k ↦ elim (was q both.1 both.3) [ inl d ↦ absurd (lone r both.0 both.1 d.1 both.4 k.1) | inr l ↦ f.once r q (both.0, both.1, k.1, l.1, both.4) ]
         ]
 
 -- where none of three rows applies, each test is false

@@ -1,5 +1,5 @@
 use Rattle.std.proofs.Common.{arith}
-use Rattle.pebble.proofs.Tables.{filled, facts_cleared}
+use Rattle.pebble.proofs.Tables.{Facts, filled, facts_cleared}
 use Rattle.pebble.proofs.board.Board.take.Goals as goal
 
 pub find-requires : goal.find-requires
@@ -8,4 +8,6 @@ find-requires c = filled _ _ c.args.self.now.few c.args.self.now.whole c.args.se
 pub invariant_of-self-2 : goal.invariant_of-self-2
 invariant_of-self-2 c =
     let b = c.args.self.now in
-    facts_cleared b.joints b.slots c.in_ok-slot.slot c.in_ok-slot.ensures.below (b.few, (b.whole, (b.ends, (b.apart, (b.once, tt)))))
+    let before : Facts b.joints b.slots = record { few = b.few; whole = b.whole; ends = b.ends; apart = b.apart; once = b.once } in
+    let after = facts_cleared b.joints b.slots c.in_ok-slot.slot c.in_ok-slot.ensures.below before in
+    record { few = after.few; whole = after.whole; ends = after.ends; apart = after.apart; once = after.once }

@@ -25,7 +25,7 @@ move_on-returns-in-Some-find_room t c =
     passed_on slots c.find_room.new.slots c.swap.new.self (members c.args.seen.now) c.args.joint.0 c.loop-slot.slot c.in-Some-find_room.free now_seen c.in-Some.item k grown
     turn (c.insert.ensures.after (turn_inside _ _ _ _ _ _ _ turn)) (is_new now_seen k c.insert.result c.insert.ensures.value c.if-not-insert.false)
     (subst (λ l. Moved l grown k c.in-Some-find_room.free c.find_room.new.slots) c.loop-slot.invariant.0 c.in-Some-find_room.ensures)
-    c.swap.ensures.len (c.swap.ensures.places.0 None) (c.swap.ensures.places.1 None) (λ s d g. c.swap.ensures.places.2 s None d g)
+    c.swap.ensures.len (c.swap.ensures.by_index.0 None) (c.swap.ensures.by_index.1 None) (λ s d g. c.swap.ensures.by_index.2 s None d g)
 
 pub move_on-loop-slot-preserved-in_default : goal.move_on-loop-slot-preserved-in_default
 move_on-loop-slot-preserved-in_default t c = (

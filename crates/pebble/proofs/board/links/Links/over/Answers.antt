@@ -18,6 +18,6 @@ loop-slot-preserved c =
     elim c.match-slots-slot.branch [
       | in-Some w ↦
           let small = other_small _ _ _ _ _ _ c.requires.0 c.requires.1 w.in-Some.is w.other_end-to.ensures in
-          linking_item _ _ _ _ _ _ _ _ c.loop-slot.invariant (omega arith) small w.in-Some.is w.other_end-to.ensures w.last_is w.before-is
-      | in_default w ↦ linking_empty _ _ _ _ _ _ c.loop-slot.invariant w.in_default.is w.last_is w.before-is
+          linking_item _ _ _ _ _ _ _ _ c.loop-slot.invariant (omega arith) small w.in-Some.is w.other_end-to.ensures w.last-is w.before-is
+      | in_default w ↦ linking_empty _ _ _ _ _ _ c.loop-slot.invariant w.in_default.is w.last-is w.before-is
     ]
