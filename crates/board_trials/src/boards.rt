@@ -2,7 +2,7 @@
 use pebble::{Board, Fault, Gathering, Item, Room};
 use sets::{BarId, Ends, JointId, JointSet};
 use std::process::Abort;
-use std::test::*;
+use std::test::Fail;
 
 // A frame.
 #[derive(Clone, Copy)]
@@ -109,20 +109,20 @@ impl<'a> Shape<'a> {
     }
 
     // The board with all bars, each at its first end.
-    fn full(&self) -> Result<Board, Fail> {
+    fn full(&self, rt: &impl Abort) -> Result<Board, Fail> {
         let mut board = self.board()?;
         for k in 0..self.bars.len() {
             let item = self.item(k).ok_or("no such bar")?;
-            assert_eq!(board.put(item), Ok(item.ends.one));
+            assert_eq!(rt; board.put(item), Ok(item.ends.one));
         }
         Ok(board)
     }
 
     // Every slot is as on the board with all bars.
-    fn check_full(&self, board: &Board) -> Result<(), Fail> {
-        let full = self.full()?;
+    fn check_full(&self, rt: &impl Abort, board: &Board) -> Result<(), Fail> {
+        let full = self.full(rt)?;
         for joint in 0..512 {
-            assert_eq!(
+            assert_eq!(rt;
                 board.items_at(JointId(joint)),
                 full.items_at(JointId(joint))
             );
@@ -131,11 +131,11 @@ impl<'a> Shape<'a> {
     }
 
     // The board with as many bars as can be placed, tried in an order, and how many these are.
-    fn place(&self, board: &mut Board, order: &[usize]) -> Result<u64, Fail> {
+    fn place(&self, rt: &impl Abort, board: &mut Board, order: &[usize]) -> Result<u64, Fail> {
         let mut n: u64 = 0;
         for k in order {
             if let Some(item) = self.item(*k) {
-                if place(board, item)? {
+                if place(rt, board, item)? {
                     n = n.saturating_add(1);
                 }
             }
@@ -145,15 +145,15 @@ impl<'a> Shape<'a> {
 }
 
 // Places a bar if four slots can be emptied at its ends, and answers whether it is placed.
-fn place(board: &mut Board, item: Item) -> Result<bool, Fail> {
+fn place(rt: &impl Abort, board: &mut Board, item: Item) -> Result<bool, Fail> {
     match board.gather(item.ends.one, item.ends.two, 4)? {
         Gathering::Enough => {
-            assert_eq!(board.put(item), Ok(item.ends.one));
+            assert_eq!(rt; board.put(item), Ok(item.ends.one));
             Ok(true)
         }
         Gathering::Short { empty, reached } => {
-            assert_eq!(empty, 3);
-            assert!(reached.contains_both(item.ends));
+            assert_eq!(rt; empty, 3);
+            assert!(rt; reached.contains_both(item.ends));
             Ok(false)
         }
     }
@@ -179,7 +179,7 @@ fn as_many_in_each_order(rt: HostRuntime) -> Result<(), Fail> {
     ];
     for (shape, most) in cases {
         for order in ORDERS {
-            assert_eq!(rt; shape.place(&mut shape.board()?, &order)?, most);
+            assert_eq!(rt; shape.place(&rt, &mut shape.board()?, &order)?, most);
         }
     }
     Ok(())
@@ -195,9 +195,9 @@ fn check_just(rt: &impl Abort, set: JointSet, joints: &[u16]) -> Result<(), Fail
 }
 
 // Gathers three empty slots at the ends of a bar, and answers the joints that reach no other.
-fn group_around(shape: Shape, u: JointId, v: JointId) -> Result<JointSet, Fail> {
+fn group_around(rt: &impl Abort, shape: Shape, u: JointId, v: JointId) -> Result<JointSet, Fail> {
     let mut board = shape.board()?;
-    shape.place(&mut board, &ORDERS[0])?;
+    shape.place(rt, &mut board, &ORDERS[0])?;
     match board.gather(u, v, 3)? {
         Gathering::Enough => Ok(board.unreaching(u, v)),
         Gathering::Short { .. } => Err(Fail::new("no three")),
@@ -217,7 +217,11 @@ fn groups_around_bars(rt: HostRuntime) -> Result<(), Fail> {
         (HINGED, 4, 5, &[3, 4, 5]),
     ];
     for (shape, u, v, group) in cases {
-        check_just(&rt, group_around(shape, JointId(u), JointId(v))?, group)?;
+        check_just(
+            &rt,
+            group_around(&rt, shape, JointId(u), JointId(v))?,
+            group,
+        )?;
     }
     Ok(())
 }
@@ -257,7 +261,7 @@ fn three_steps(rt: HostRuntime) -> Result<(), Fail> {
             (3, 0),
         ],
     };
-    let mut board = shape.full()?;
+    let mut board = shape.full(&rt)?;
     check_joints(&rt, &board, &[0, 0, 4, 4, 1, 1, 2, 2, 3])?;
     // The second time there is room already, and nothing moves.
     for _ in 0..2 {
@@ -286,7 +290,7 @@ const CLOSED: Shape<'static> = Shape {
 
 // Makes room at joint 0 and keeps some joints, and answers the joints that were seen where there is no way; nothing is moved then.
 fn seen(rt: &impl Abort, shape: Shape, kept: &[u16]) -> Result<Option<JointSet>, Fail> {
-    let mut board = shape.full()?;
+    let mut board = shape.full(rt)?;
     let mut set = JointSet::empty();
     for joint in kept {
         set.insert(JointId(*joint));
@@ -297,7 +301,7 @@ fn seen(rt: &impl Abort, shape: Shape, kept: &[u16]) -> Result<Option<JointSet>,
             Ok(None)
         }
         Room::Stuck(seen) => {
-            shape.check_full(&board)?;
+            shape.check_full(rt, &board)?;
             Ok(Some(seen))
         }
     }
@@ -334,7 +338,7 @@ const FILLED: Shape<'static> = Shape {
 
 #[test]
 fn refused_bars(rt: HostRuntime) -> Result<(), Fail> {
-    let mut board = FILLED.full()?;
+    let mut board = FILLED.full(&rt)?;
     let cases = [
         (9, 3, 0, Fault::JointPast(JointId(3))),
         (9, 0, 3, Fault::JointPast(JointId(3))),
@@ -350,7 +354,7 @@ fn refused_bars(rt: HostRuntime) -> Result<(), Fail> {
     ];
     for (number, one, two, fault) in cases {
         assert_eq!(rt; board.put(bar(number, one, two)), Err(fault));
-        FILLED.check_full(&board)?;
+        FILLED.check_full(&rt, &board)?;
     }
     Ok(())
 }
@@ -368,7 +372,7 @@ fn check_past(rt: &impl Abort, board: &mut Board, joint: JointId) -> Result<(), 
 
 #[test]
 fn refused_moves(rt: HostRuntime) -> Result<(), Fail> {
-    let mut board = FILLED.full()?;
+    let mut board = FILLED.full(&rt)?;
     let cases = [
         (3, 0, Fault::JointPast(JointId(3))),
         (0, 512, Fault::JointPast(JointId(512))),
@@ -384,7 +388,7 @@ fn refused_moves(rt: HostRuntime) -> Result<(), Fail> {
     for joint in [3, 512, 65535] {
         check_past(&rt, &mut board, JointId(joint))?;
     }
-    FILLED.check_full(&board)
+    FILLED.check_full(&rt, &board)
 }
 
 // A bar is taken out of where it lies, and put back.
@@ -399,12 +403,12 @@ fn check_taken(rt: &impl Abort, board: &mut Board, item: Item, joint: JointId) -
 
 #[test]
 fn taken_out_and_put_back(rt: HostRuntime) -> Result<(), Fail> {
-    let mut board = FILLED.full()?;
+    let mut board = FILLED.full(&rt)?;
     check_room(&rt, &mut board, JointId(1))?;
     // One that lies where it was put, and one that has moved on.
     check_taken(&rt, &mut board, bar(0, 0, 1), JointId(0))?;
     check_taken(&rt, &mut board, bar(3, 1, 2), JointId(2))?;
-    FILLED.check_full(&board)
+    FILLED.check_full(&rt, &board)
 }
 
 // Two bars from each joint of the largest board to the next, and a move from the first joint to the last.
