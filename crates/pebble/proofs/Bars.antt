@@ -1,15 +1,13 @@
 -- The bars of a frame that lie on a board, after a move, after a bar was put, and after one was taken out.
-use Rattle.std.proofs.Common.{◌≡◌, ℕ, ◌<◌, true, false, not, eqb, ◌⊎◌, length, set, Some, None, Option, sym, refl, ap, ◌∙◌, subst, inl, inr, arith}
+use Rattle.std.proofs.Common.{◌≡◌, ℕ, ◌<◌, true, false, not, eqb, length, set, Some, None, Option, sym, refl, ap, ◌∙◌, subst, inl, inr, arith}
 use Rattle.std.proofs.lemmas.List.{get_or_past, get_or-set_same, get_or-set_other}
-use Rattle.std.proofs.lemmas.Bool.{cases_eq, cases_lt, and_parts, and_from, or_cases, or_left, or_right, eqb-true, eqb-false, eq-eqb, ne_eqb, not-true, not_from_false}
-use Rattle.sets.specs.Sets.{Set, none, also, less}
+use Rattle.std.proofs.lemmas.Bool.{cases_lt, and_parts, and_from, or_cases, or_left, or_right, eqb-true, eqb-false, eq-eqb, ne_eqb, not-true, not_from_false}
 use Rattle.sets.proofs.First.{some_first}
-use Rattle.frame.specs.Frame.{Frame}
 use Rattle.pebble.specs.declared.item.Item.{Item}
 use Rattle.pebble.specs.Slots.{Slots, slot, Lies, name, nothing}
 use Rattle.pebble.specs.Calls.{named, where_is}
 use Rattle.pebble.specs.Laws.{NothingOriented, MovesOrient, PutOrients, TakeOrients}
-use Rattle.pebble.proofs.Tables.{some_none, cases_slot, nothing_lies, lies_set}
+use Rattle.pebble.proofs.Tables.{some_none, nothing_lies, lies_set}
 
 pub nothing_oriented : NothingOriented
 nothing_oriented f = record {

@@ -1,14 +1,14 @@
 -- Gathering at two joints: one slot more is emptied, or the joints that are reached from both are a group that no item leads out of.
-use Rattle.std.proofs.Common.{◌≡◌, ℕ, ◌+◌, ◌*◌, ◌/◌, ◌<◌, ◌≤◌, true, false, eqb, is_some, Some, None, Option, sym, refl, ap, ◌∙◌, subst, ap₂, inl, inr, arith, MatchOption}
-use Rattle.std.proofs.lemmas.Bool.{cases_Bool, or_cases, or_left, or_right, or_from, eqb-true, eq-eqb, ne_eqb}
+use Rattle.std.proofs.Common.{◌≡◌, ℕ, ◌+◌, ◌*◌, ◌/◌, ◌<◌, true, false, eqb, is_some, Some, None, Option, sym, refl, ap, ◌∙◌, subst, ap₂, inl, inr, arith, MatchOption}
+use Rattle.std.proofs.lemmas.Bool.{cases_Bool, or_cases, or_left, or_right, eqb-true, eq-eqb}
 use Rattle.sets.specs.Sets.{Set, none, also}
 use Rattle.pebble.specs.declared.item.Item.{Item}
 use Rattle.pebble.specs.declared.outcome.Gathering.{Gathering}
 use Rattle.pebble.specs.declared.outcome.Gathering.TheVariants.{Enough, Short}
 use Rattle.pebble.specs.declared.outcome.Room.{Room}
 use Rattle.pebble.specs.declared.outcome.Room.TheVariants.{Made, Stuck as StuckAt}
-use Rattle.pebble.specs.Slots.{Slots, slot, Lies, Placed, SameItems, Closed, one, two, room, vacant}
-use Rattle.pebble.specs.Groups.{Reached, Shut}
+use Rattle.pebble.specs.Slots.{Slots, slot, Placed, SameItems, Closed, room, vacant}
+use Rattle.pebble.specs.Groups.{Reached}
 use Rattle.pebble.specs.Moves.{Standing, Moved, Stuck, MovedOn, Roomless, RoomSays, Emptied, FellShort, GatherSays}
 use Rattle.pebble.proofs.Tables.{Facts}
 use Rattle.pebble.proofs.Searches.{spread_none, spread_more}

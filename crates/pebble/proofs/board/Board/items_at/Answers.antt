@@ -1,4 +1,4 @@
-use Rattle.std.proofs.Common.{◌≡◌, ◌+◌, ◌*◌, length, None, refl, arith}
+use Rattle.std.proofs.Common.{◌+◌, ◌*◌, None, arith}
 use Rattle.std.proofs.lemmas.List.{get_or_past}
 use Rattle.pebble.proofs.board.Board.items_at.Goals as goal
 

@@ -1,4 +1,3 @@
-use Rattle.std.proofs.Common.{arith}
 use Rattle.pebble.proofs.Tables.{Facts, filled, facts_cleared}
 use Rattle.pebble.proofs.board.Board.take.Goals as goal
 
