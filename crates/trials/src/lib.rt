@@ -6,4 +6,4 @@ mod certificates;
 #[cfg(test)]
 mod frames;
 #[cfg(test)]
-mod sets;
+mod joint_sets;
