@@ -25,13 +25,13 @@ pub record Filled (slots : Slots) (end : ℕ) : Type 0 where
   pub rest : (s : ℕ) → end ≤ s → slot slots s ≡ None
 
 -- the first empty slot of joint j, if it has one
-abbrev pub empty_slot : Slots → (j : ℕ) → Option ℕ
-empty_slot slots j =
+abbrev pub first_empty : Slots → (j : ℕ) → Option ℕ
+first_empty slots j =
     option_or (then_some (not (is_some (slot slots (2 * j)))) (2 * j)) (then_some (not (is_some (slot slots (2 * j + 1)))) (2 * j + 1))
 
 -- the slot into which an item is put: the first empty one of its first end, or else of its second
-abbrev pub put_slot : Slots → Item → Option ℕ
-put_slot slots x = option_or (empty_slot slots (one x)) (empty_slot slots (two x))
+abbrev pub slot_for : Slots → Item → Option ℕ
+slot_for slots x = option_or (first_empty slots (one x)) (first_empty slots (two x))
 
 -- a joint that is asked for is past a board of n joints
 abbrev pub joint_row : (n j : ℕ) → Option Fault
@@ -45,11 +45,11 @@ pair_rows n u v = joint_row n u ∷ (joint_row n v ∷ (then_some (u == v) (Equa
 abbrev pub put_rows : (n : ℕ) → Slots → Item → List (Option Fault)
 put_rows n slots x =
     pair_rows n (one x) (two x)
-    ++ (then_some (is_some (where_is slots (name x))) (Placed x.bar) ∷ (then_some (not (is_some (put_slot slots x))) NoRoom ∷ []))
+    ++ (then_some (is_some (where_is slots (name x))) (Placed x.bar) ∷ (then_some (not (is_some (slot_for slots x))) NoRoom ∷ []))
 
 -- an item was put into its slot s, which was empty and is one of an end of it, and nothing else has changed; the answer is the joint at which it lies
 pub record PutAt (before : Slots) (x : Item) (s : ℕ) (at : JointId) (after : Slots) : Type 0 where
-  pub is : put_slot before x ≡ Some s
+  pub is : slot_for before x ≡ Some s
   pub inside : s < length before
   pub empty : slot before s ≡ None
   pub end : is_end x (s / 2) ≡ true

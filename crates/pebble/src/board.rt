@@ -4,7 +4,7 @@ ghost use Rattle.std.specs.Option.{option_map};
 ghost use Rattle.std.specs.Bool.{then_some};
 ghost use Rattle.pebble.specs.Answers.{Judged, Answered, first_of};
 ghost use Rattle.pebble.specs.Slots.{AtEnds, Apart, Once, nothing, slot, room, is_end, one, two};
-ghost use Rattle.pebble.specs.Calls.{where_is, Filled, empty_slot, put_slot, joint_row, pair_rows, put_rows, Put, Taken};
+ghost use Rattle.pebble.specs.Calls.{where_is, Filled, first_empty, slot_for, joint_row, pair_rows, put_rows, Put, Taken};
 
 use crate::fault::Fault;
 use crate::item::Item;
@@ -138,7 +138,7 @@ impl Board {
 // The slot into which an item is put: the first empty one of its first end, or else of its second.
 fn put_slot(slots: &[Option<Item>], item: &Item) -> Option<usize>
     requires { (length slots.now ≡ 1024) × ((one item.now < 512) × (two item.now < 512)) }
-    ensures value { result ≡ put_slot slots.now item.now }
+    ensures value { result ≡ slot_for slots.now item.now }
     ensures says { IfSome result (λ s. (is_end item.now (s / 2) ≡ true) × (s < 1024) × (slot slots.now s ≡ None)) }
 {
     match empty_slot(slots, item.ends.one) {
@@ -173,7 +173,7 @@ fn empty_table() -> [Option<Item>; SLOTS]
 // The first empty slot of a joint, or none.
 fn empty_slot(slots: &[Option<Item>], joint: JointId) -> Option<usize>
     requires { (length slots.now ≡ 1024) × (joint.0 < 512) }
-    ensures value { result ≡ empty_slot slots.now joint.0 }
+    ensures value { result ≡ first_empty slots.now joint.0 }
     ensures says { MatchOption result (room slots.now joint.0 ≡ 0) (λ s. (s / 2 ≡ joint.0) × (s < 1024) × (slot slots.now s ≡ None)) }
 {
     let first = 2 * joint.0 as usize;
