@@ -1,25 +1,16 @@
 -- Lent lists, row by row: a row with no crowded joint keeps its rules.
-use Rattle.std.proofs.Common.{◌≡◌, ℕ, zero, suc, ◌+◌, ◌*◌, ◌/◌, ◌%◌, ◌<◌, ◌≤◌, true, ◌⊎◌, List, length, Some, None, Option, sym, refl, ap, ◌∙◌, inl, inr, arith}
-use Rattle.std.proofs.lemmas.Nat.{mul-le}
+use Rattle.std.proofs.Common.{◌≡◌, ℕ, zero, suc, ◌<◌, true, ◌⊎◌, List, Some, None, Option, sym, refl, ◌∙◌, inl, inr, arith}
 use Rattle.std.proofs.lemmas.Bool.{ltb-true, ltb-false}
 use Rattle.sets.specs.Sets.{Set, first}
 use Rattle.sets.proofs.First.{none_first, some_first}
 use Rattle.frame.specs.Frame.{Bar, Frame, size}
 use Rattle.certificate.specs.Lists.{width, row_of, crowded, Row, ShownFree, end_of, row_in, list_in}
 
--- row k of n rows of one width lies within them
-pub row_within : (k n w v : ℕ) (xs : List ℕ) → k < n → w ≡ v → length xs ≡ n * v → k * w + w ≤ length xs
-row_within k n w v xs l e long = rw e (omega (arith, long, mul-le (k + 1) v n v (omega arith) (omega arith)))
-
--- rows that are all whole
-pub whole_rows : (x n : ℕ) → x % n ≡ 0 → x ≡ x / n * n
-whole_rows x n e = omega (arith, e)
-
 -- what is found in a row that is read from a list is what is found in the list there
 pub first_in_row :
-    (f : Frame) (bs : Set) (list row : List ℕ) (k w : ℕ) (found : Option ℕ) → w ≡ width f → row ≡ row_of w list k → found ≡ first f.joints (crowded f bs k (row_in f k row)) →
-    first f.joints (crowded f bs k (list_in f list k)) ≡ found
-first_in_row f bs list row k w found e is h = sym (h ∙ ap (λ xs. first f.joints (crowded f bs k (row_in f k xs))) (is ∙ ap (λ v. row_of v list k) e))
+    (f g : Frame) (bs : Set) (list row : List ℕ) (k own : ℕ) (found : Option ℕ) → g ≡ f → own ≡ k → row ≡ row_of (width f) list k →
+    found ≡ first g.joints (crowded g bs own (row_in g own row)) → first f.joints (crowded f bs k (list_in f list k)) ≡ found
+first_in_row f g bs list row k own found same here is h = sym (h ∙ rw (same, here, is) refl)
 
 -- a number names one of the two ends of a bar
 an_end : (b : Bar) (n : ℕ) → (end_of b n ≡ b.one) ⊎ (end_of b n ≡ b.two)

@@ -5,10 +5,9 @@ use Rattle.std.proofs.lemmas.Bool.{and_from, cases_eq, eq-eqb, ne_eqb}
 use Rattle.std.specs.Bool.{then_some}
 use Rattle.sets.specs.Sets.{Set, count}
 use Rattle.sets.proofs.Counts.{count_step, count_most}
-use Rattle.frame.specs.Frame.{Frame, Sound, size, bar_at}
-use Rattle.frame.specs.Views.{Allowed}
+use Rattle.frame.specs.Frame.{Frame, Sound, size, bar_at, Allowed}
 use Rattle.certificate.specs.Lists.{item, width, given, end_of, row_in}
-use Rattle.certificate.proofs.Facts.{some_is}
+use Rattle.frame.proofs.Frames.{taken}
 use Rattle.certificate.proofs.Orientations.{item_below}
 
 -- both ends of a bar of a sound frame are joints of the frame
@@ -22,7 +21,7 @@ pub given_joint :
     ◌≡◌ {A = Option ℕ} (Some joint) (then_some (bs (item f own i)) (end_of (bar_at f (item f own i)) n)) →
     (bs (item f own i) ≡ true) × (end_of (bar_at f (item f own i)) n ≡ joint) × (joint < 512)
 given_joint f bs own i n joint a l e =
-    let s = some_is _ _ _ e in
+    let s = taken _ _ _ (sym e) in
     (s.0, s.1, omega (arith, s.1, a.most_joints, end_below f (item f own i) n a.sound (item_below f own i l)))
 
 -- the items that a row gives to joint j

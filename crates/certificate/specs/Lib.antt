@@ -3,3 +3,4 @@ pub mod Sheets
 pub mod Laws
 pub mod Rows
 pub mod Verdicts
+pub mod Texts

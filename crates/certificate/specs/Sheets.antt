@@ -3,7 +3,7 @@
 use Rattle.std.specs.Prelude.{◌≡◌, ℕ, ◌+◌, ◌*◌, ◌/◌, ◌<◌, ◌≤◌, Bool, true, false, not, ◌&&◌, ◌⊎◌, List, length, slice_index_or}
 use Rattle.sets.specs.Sets.{Set, all, count, over}
 use Rattle.frame.specs.Frame.{Frame, size, among}
-use Rattle.frame.specs.Views.{set_in}
+use Rattle.frame.specs.Lent.{set_in}
 use Rattle.certificate.specs.Lists.{row_of}
 
 -- a sheet: how many groups it has, the joints of each, and the bars that are counted alone

@@ -1,15 +1,15 @@
 -- What each verdict of a checker means, and what the calls answer. Assumes nothing: these are definitions.
-use Rattle.std.specs.Prelude.{◌≡◌, ℕ, ◌<◌, ◌≤◌, true, not, ◌&&◌, List, ◌++◌, Some, None, Result, ◌≢◌}
+use Rattle.std.specs.Prelude.{◌≡◌, ℕ, ◌<◌, ◌≤◌, true, not, ◌&&◌, List, ◌++◌, Some, None, Ok, Err, Result, ◌≢◌}
 use Rattle.sets.specs.Sets.{Set, count, first}
 use Rattle.frame.specs.Frame.{Frame, size, Free, Part, Most}
-use Rattle.frame.specs.Refusals.{Answered, frame_rows}
-use Rattle.frame.specs.Views.{frame_in, set_in}
+use Rattle.frame.specs.Answers.{Answered}
+use Rattle.frame.specs.Refusals.{frame_rows}
+use Rattle.frame.specs.Lent.{frame_in, set_in}
 use Rattle.frame.specs.declared.refusal.Refusal.{Refusal}
 use Rattle.certificate.specs.Lists.{crowded, ShownFree, list_in}
 use Rattle.certificate.specs.Sheets.{Sheet, Covered, Wide, Counted, Covers, Bounds, sheet_in}
 use Rattle.certificate.specs.Rows.{list_rows, sheet_rows, largest_rows}
-use Rattle.certificate.specs.declared.verdict.ListVerdict.{ListVerdict}
-use Rattle.certificate.specs.declared.verdict.ListVerdict.TheVariants.{Accepted, Overfull}
+use Rattle.certificate.specs.declared.verdict.Overfull.{Overfull}
 use Rattle.certificate.specs.declared.verdict.SheetVerdict.{SheetVerdict}
 use Rattle.certificate.specs.declared.verdict.SheetVerdict.TheVariants.{Bound, TooSmall, Uncovered}
 use Rattle.certificate.specs.declared.verdict.LargestVerdict.{LargestVerdict}
@@ -22,9 +22,9 @@ pub record FirstCrowded (f : Frame) (bs : Set) (at : ℕ → ℕ → ℕ) (k j :
   pub before : (i : ℕ) → i < k → bs i ≡ true → first f.joints (crowded f bs i (at i)) ≡ None
 
 -- a list is accepted exactly if it keeps its rules, and then the set is free; else it is said what is wrong first
-abbrev pub ListSays : ListVerdict → Frame → (bars : Set) → (at : ℕ → ℕ → ℕ) → Type 0
-ListSays Accepted f bs at = ShownFree f bs at × Free f bs
-ListSays (Overfull o) f bs at = FirstCrowded f bs at o.row.0 o.joint.0 × (ShownFree f bs at → ⊥)
+abbrev pub ListSays : Result (Unit {0}) Overfull → Frame → (bars : Set) → (at : ℕ → ℕ → ℕ) → Type 0
+ListSays (Ok _) f bs at = ShownFree f bs at × Free f bs
+ListSays (Err o) f bs at = FirstCrowded f bs at o.row.0 o.joint.0 × (ShownFree f bs at → ⊥)
 
 -- a sheet has a bound exactly if it keeps its rules, and then no free part of the set has more bars; else it is said what is wrong first
 abbrev pub SheetSays : SheetVerdict → Frame → (bars : Set) → Sheet → Type 0
@@ -42,11 +42,11 @@ outside bs xs k = xs k && not (bs k)
 abbrev pub LargestSays : LargestVerdict → Frame → (bars part : Set) → (at : ℕ → ℕ → ℕ) → Sheet → Type 0
 LargestSays (Largest n) f bs xs at s = Most f bs xs × (n ≡ count (size f) xs) × ShownFree f xs at × Covers f bs s × Bounds f s n
 LargestSays (Outside k) f bs xs at s = first (size f) (outside bs xs) ≡ Some k.0
-LargestSays (ListFails o) f bs xs at s = Part f xs bs × ListSays (Overfull o) f xs at
+LargestSays (ListFails o) f bs xs at s = Part f xs bs × ListSays (Err o) f xs at
 LargestSays (SheetFails v) f bs xs at s = Part f xs bs × ShownFree f xs at × SheetSays v f bs s × (v ≢ Bound (count (size f) xs))
 
 -- what the calls answer: the first row that applies, or the verdict on what the lent numbers mean
-abbrev pub ListChecked : Result ListVerdict Refusal → ℕ → (bars chosen list : List ℕ) → Type 0
+abbrev pub ListChecked : Result (Result (Unit {0}) Overfull) Refusal → ℕ → (bars chosen list : List ℕ) → Type 0
 ListChecked r joints bars chosen list =
     let f = frame_in joints bars in
     Answered (λ v. ListSays v f (set_in chosen) (list_in f list)) r (frame_rows joints bars ++ list_rows f chosen list)

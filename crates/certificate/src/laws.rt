@@ -2,15 +2,11 @@
 ghost use Rattle.certificate.specs.Laws.{ListsRight, SheetsRight};
 
 // In a sound frame, a set with a list that keeps its rules is free.
-pub fn lists_are_right() -> u8
+pub fn lists_are_right()
     ensures { ListsRight }
-{
-    0
-}
+{}
 
 // A sheet that keeps its rules for a set bounds every free part of the set.
-pub fn sheets_are_right() -> u8
+pub fn sheets_are_right()
     ensures { SheetsRight }
-{
-    0
-}
+{}

@@ -2,9 +2,12 @@
 // of a set can have. Nothing here allocates, and nothing lent is changed.
 #![tactic(auto)]
 
+mod bars;
 pub mod checkers;
 pub mod laws;
+mod list;
+mod sheet;
 pub mod verdict;
 
 pub use checkers::{check_largest, check_list, check_sheet};
-pub use verdict::{GroupId, LargestVerdict, ListVerdict, Overfull, SheetVerdict};
+pub use verdict::{GroupId, LargestVerdict, Overfull, SheetVerdict};

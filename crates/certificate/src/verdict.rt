@@ -1,5 +1,7 @@
 // What the checkers say of lists and sheets.
 use frame::{BarId, JointId};
+use std::error::Error;
+use std::fmt;
 
 // The number of a group of a sheet, from 0.
 #[derive(Clone, Copy, PartialEq, Eq, Debug)]
@@ -12,14 +14,18 @@ pub struct Overfull {
     pub joint: JointId,
 }
 
-// What a list shows.
-#[derive(Clone, Copy, PartialEq, Eq, Debug)]
-pub enum ListVerdict {
-    // The list keeps its rules: the set is free.
-    Accepted,
-    // The first row that is wrong, and the first joint to which it gives three items or more.
-    Overfull(Overfull),
+impl fmt::Display for Overfull {
+    ghost use Rattle.std.specs.Prelude.{Some};
+    ghost use Rattle.certificate.specs.Texts.{overfull_text};
+
+    ghost output = { λ wrong. Some (overfull_text wrong) };
+
+    fn fmt<W: fmt::Write>(&self, f: &mut fmt::Formatter<W>) -> fmt::Result {
+        write!(f, "row {} pin {} is given three", self.row.0, self.joint.0)
+    }
 }
+
+impl Error for Overfull {}
 
 // What a sheet shows.
 #[derive(Clone, Copy, PartialEq, Eq, Debug)]
@@ -30,6 +36,21 @@ pub enum SheetVerdict {
     TooSmall(GroupId),
     // No group is too small, and this is the first bar of the set that is in no group and not alone.
     Uncovered(BarId),
+}
+
+impl fmt::Display for SheetVerdict {
+    ghost use Rattle.std.specs.Prelude.{Some};
+    ghost use Rattle.certificate.specs.Texts.{sheet_text};
+
+    ghost output = { λ verdict. Some (sheet_text verdict) };
+
+    fn fmt<W: fmt::Write>(&self, f: &mut fmt::Formatter<W>) -> fmt::Result {
+        match self {
+            SheetVerdict::Bound(bound) => write!(f, "at most {bound}"),
+            SheetVerdict::TooSmall(group) => write!(f, "group {} has less than two pins", group.0),
+            SheetVerdict::Uncovered(bar) => write!(f, "bar {} is in no group and not alone", bar.0),
+        }
+    }
 }
 
 // What a list and a sheet show together of a part of a set.

@@ -1,10 +1,7 @@
 // Checks lists and sheets, and prints what they show. They are not read from files yet, so it checks some that are built in.
 #![tactic(auto)]
 
-use certificate::{
-    LargestVerdict, ListVerdict, Overfull, SheetVerdict, check_largest, check_list, check_sheet,
-};
-use frame::Refusal;
+use certificate::{LargestVerdict, check_largest, check_list, check_sheet};
 use std::alloc::{AllocError, Global};
 
 // A frame, a set of its bars, a part of that with a list for it, and a sheet for the set.
@@ -20,48 +17,18 @@ struct Example<'a> {
     alone: &'a [u8],
 }
 
-fn print_refusal(rt: HostRuntime, refusal: Refusal) -> anyhow::Result<()> {
-    println!(rt;
-        "turned away by {} at {}",
-        refusal.number(),
-        refusal.place()
-    )?;
-    Ok(())
-}
-
-fn print_list(rt: HostRuntime, verdict: Result<ListVerdict, Refusal>) -> anyhow::Result<()> {
-    match verdict {
-        Ok(ListVerdict::Accepted) => println!(rt; "list free")?,
-        Ok(ListVerdict::Overfull(Overfull { row, joint })) => println!(rt;
-            "list row {} pin {} is given three",
-            row.0, joint.0
-        )?,
-        Err(refusal) => print_refusal(rt, refusal)?,
-    }
-    Ok(())
-}
-
-fn print_sheet(rt: HostRuntime, verdict: Result<SheetVerdict, Refusal>) -> anyhow::Result<()> {
-    match verdict {
-        Ok(SheetVerdict::Bound(bound)) => println!(rt; "sheet at most {bound}")?,
-        Ok(SheetVerdict::TooSmall(group)) => println!(rt;
-            "sheet group {} has less than two pins",
-            group.0
-        )?,
-        Ok(SheetVerdict::Uncovered(bar)) => println!(rt;
-            "sheet bar {} is in no group and not alone",
-            bar.0
-        )?,
-        Err(refusal) => print_refusal(rt, refusal)?,
-    }
-    Ok(())
-}
-
 // Prints what the list shows of the part, the sheet of the set, and, where the part is largest, its size.
 fn check_one(rt: HostRuntime, e: Example<'_>) -> anyhow::Result<()> {
     println!(rt; "{}", e.name)?;
-    print_list(rt, check_list(e.pins, e.bars, e.part, e.list))?;
-    print_sheet(rt, check_sheet(e.pins, e.bars, e.set, e.groups, e.alone))?;
+    match check_list(e.pins, e.bars, e.part, e.list) {
+        Ok(Ok(())) => println!(rt; "list free")?,
+        Ok(Err(wrong)) => println!(rt; "list {wrong}")?,
+        Err(refusal) => println!(rt; "{refusal}")?,
+    }
+    match check_sheet(e.pins, e.bars, e.set, e.groups, e.alone) {
+        Ok(shown) => println!(rt; "sheet {shown}")?,
+        Err(refusal) => println!(rt; "{refusal}")?,
+    }
     if let Ok(LargestVerdict::Largest(size)) = check_largest(
         e.pins, e.bars, e.set, e.part, e.list, e.groups, e.alone,
     ) {
@@ -70,18 +37,11 @@ fn check_one(rt: HostRuntime, e: Example<'_>) -> anyhow::Result<()> {
     Ok(())
 }
 
-// The digit for 0; that for 1 follows it.
-const ZERO: u8 = 48;
-
 // The numbers that digits mean, one each; blanks are for the reader.
 fn digits(heap: Global, text: &str) -> Result<Vec<u8>, AllocError> {
-    let mut numbers = Vec::new(heap);
-    for byte in text.bytes() {
-        if byte >= ZERO {
-            numbers.push(byte - ZERO)?;
-        }
-    }
-    Ok(numbers)
+    text.bytes()
+        .filter_map(|byte| byte.checked_sub(b'0'))
+        .collect(heap)
 }
 
 // A square with both diagonals: the part without the last bar, which is free, and all pins as one group; then a list that gives every bar to its
@@ -136,37 +96,26 @@ const STRIP_BARS: usize = 1021;
 // How many bars the frame has.
 const ALL_BARS: usize = 2048;
 
-// The numbers of the bars: bar k starts at pin k % 511.
+// The two pins of a bar: bar k starts at pin k % 511.
+fn strip_pins(bar: usize) -> [u16; 2] {
+    let from = (bar % SHORT) as u16;
+    let is_long = (SHORT..STRIP_BARS).contains(&bar);
+    [from, from + if is_long { 2 } else { 1 }]
+}
+
+// The numbers of the bars.
 fn strip_numbers(heap: Global) -> Result<Vec<u16>, AllocError> {
-    let mut numbers = Vec::new(heap);
-    for bar in 0..ALL_BARS {
-        let from = (bar % SHORT) as u16;
-        numbers.push(from)?;
-        numbers.push(if bar >= SHORT && bar < STRIP_BARS {
-            from + 2
-        } else {
-            from + 1
-        })?;
-    }
-    Ok(numbers)
+    (0..ALL_BARS).flat_map(strip_pins).collect(heap)
 }
 
 // A mark for each bar, 1 for those below n.
 fn first_bars(heap: Global, n: usize) -> Result<Vec<u8>, AllocError> {
-    let mut marks = Vec::new(heap);
-    for bar in 0..ALL_BARS {
-        marks.push((bar < n) as u8)?;
-    }
-    Ok(marks)
+    (0..ALL_BARS).map(|bar| (bar < n) as u8).collect(heap)
 }
 
 // A group of all pins, so many times.
 fn whole_groups(heap: Global, n: usize) -> Result<Vec<u8>, AllocError> {
-    let mut marks = Vec::new(heap);
-    for _ in 0..n.saturating_mul(STRIP_PINS as usize) {
-        marks.push(1)?;
-    }
-    Ok(marks)
+    vec![in heap; 1; n.saturating_mul(STRIP_PINS as usize)]
 }
 
 // The end that a bar of the strip is given to in a row of the list. The row's own bar, and the bars that start before it, go to their first
@@ -184,17 +133,14 @@ fn strip_end(own: usize, bar: usize) -> u8 {
 
 // Appends the row of a bar.
 fn push_row(list: &mut Vec<u8>, own: usize) -> Result<(), AllocError> {
-    for bar in 0..ALL_BARS {
-        list.push(if own < STRIP_BARS && bar < STRIP_BARS {
+    list.extend((0..ALL_BARS).map(|bar| {
+        if own < STRIP_BARS && bar < STRIP_BARS {
             strip_end(own, bar)
         } else {
             0
-        })?;
-    }
-    list.push(0)?;
-    list.push(1)?;
-    list.push(1)?;
-    Ok(())
+        }
+    }))?;
+    list.extend_from_slice(&[0, 1, 1])
 }
 
 // A list that shows that the strip is free.

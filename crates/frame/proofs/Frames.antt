@@ -1,11 +1,13 @@
 -- Laws of lent numbers as a frame: its bars, and that it is sound where no row applies.
-use Rattle.std.proofs.Common.{◌≡◌, ℕ, ◌+◌, ◌*◌, ◌/◌, ◌%◌, ◌<◌, Bool, true, false, eqb, ltb, List, length, get_or, Some, None, Option, refl, arith}
+use Rattle.std.proofs.Common.{◌≡◌, ℕ, ◌+◌, ◌*◌, ◌/◌, ◌%◌, ◌<◌, Bool, true, false, eqb, ltb, zero, suc, List, length, get_or, drop, ap, sym, ◌∙◌, Some, None, Option, refl, arith}
 use Rattle.std.proofs.lemmas.List.FromFn.{length-map-range_with_len, get_or-map-range_with_len}
 use Rattle.std.proofs.lemmas.Bool.{eqb-false, leb-false, ltb-false, or_parts}
+use Rattle.std.proofs.lemmas.List.{get_or-take, get_or-drop}
+use Rattle.std.specs.Simd.{first_chunks}
 use Rattle.std.specs.Option.{option_map}
 use Rattle.std.specs.Bool.{then_some}
-use Rattle.frame.specs.Frame.{no_bar}
-use Rattle.frame.specs.Views.{bars_in, frame_in, Allowed}
+use Rattle.frame.specs.Frame.{no_bar, Allowed}
+use Rattle.frame.specs.Lent.{bars_in, frame_in}
 use Rattle.frame.specs.Refusals.{joints_row, numbers_row, ends_row, apart_row, past, equal_ends}
 use Rattle.sets.proofs.First.{none_first}
 
@@ -19,10 +21,31 @@ pub bar_in : (xs : List ℕ) (k : ℕ) → k < length xs / 2 → get_or (bars_in
 unfolding bars_in
 bar_in xs k lt = get_or-map-range_with_len (λ k. record { one = get_or xs (2 * k) 0; two = get_or xs (2 * k + 1) 0 }) 0 (length xs / 2) k k no_bar lt (omega arith)
 
+-- cut into pairs, numbers stand in pair k as at 2k and 2k + 1
+pub pair_in :
+    (n : ℕ) (xs : List ℕ) (k : ℕ) (d : List ℕ) → k < n →
+    (get_or (get_or (first_chunks 2 n xs) k d) 0 0 ≡ get_or xs (2 * k) 0) × (get_or (get_or (first_chunks 2 n xs) k d) 1 0 ≡ get_or xs (2 * k + 1) 0)
+pair_in zero xs k d lt = absurd (omega arith)
+pair_in (suc n) xs zero d lt = (get_or-take 2 xs 0 0 (omega arith), get_or-take 2 xs 1 0 (omega arith))
+pair_in (suc n) xs (suc k) d lt =
+    let rest = pair_in n (drop 2 xs) k d (omega arith) in
+    let first : 2 + 2 * k ≡ 2 * suc k = omega arith in
+    let second : 2 + (2 * k + 1) ≡ 2 * suc k + 1 = omega arith in
+    (rest.0 ∙ get_or-drop 2 xs (2 * k) 0 ∙ ap (λ i. get_or xs i 0) first, rest.1 ∙ get_or-drop 2 xs (2 * k + 1) 0 ∙ ap (λ i. get_or xs i 0) second)
+
+-- the two ends of bar k are equal, or not, as those of pair k are
+pub equal_in : (n : ℕ) (xs : List ℕ) (k : ℕ) (d : List ℕ) (b : Bool) → k < n → eqb (get_or (get_or (first_chunks 2 n xs) k d) 0 0) (get_or (get_or (first_chunks 2 n xs) k d) 1 0) ≡ b → equal_ends xs k ≡ b
+equal_in n xs k d b lt e = rw (sym (pair_in n xs k d lt).0, sym (pair_in n xs k d lt).1) e
+
 -- a test that refuses nothing is false, and a search that finds nothing has found nothing
 pub untaken : {X : Type 0} (t : Bool) (x : X) → then_some t x ≡ None → t ≡ false
 untaken true x e = let z : ◌≡◌ {A = ℕ} 0 1 = cc in absurd (omega arith)
 untaken false x e = refl
+
+-- and a test that has a value is true, and the value is that
+pub taken : {X : Type 0} (t : Bool) (x y : X) → then_some t x ≡ Some y → (t ≡ true) × (x ≡ y)
+taken true x y e = (refl, cc)
+taken false x y e = let z : ◌≡◌ {A = ℕ} 0 1 = cc in absurd (omega arith)
 
 unfound : {X Y : Type 0} (g : X → Y) (o : Option X) → option_map g o ≡ None → o ≡ None
 unfound g None e = refl

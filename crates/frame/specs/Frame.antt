@@ -35,6 +35,13 @@ pub record Sound (f : Frame) : Type 0 where
   pub inside : (k : ℕ) → k < size f → ((bar_at f k).one < f.joints) × ((bar_at f k).two < f.joints)
   pub apart : (k : ℕ) → k < size f → (bar_at f k).one ≢ (bar_at f k).two
 
+-- a frame that is looked at: a sound one with 2 to 512 joints and at most 2,048 bars
+pub record Allowed (f : Frame) : Type 0 where
+  pub sound : Sound f
+  pub least_joints : 2 ≤ f.joints
+  pub most_joints : f.joints ≤ 512
+  pub most_bars : size f ≤ 2048
+
 -- the bars of a set that are among some joints: both their ends are. In the field: the edges that the joints induce
 unfoldable pub among : Frame → (joints bars : Set) → Set
 among f js bs k = bs k && (js (bar_at f k).one && js (bar_at f k).two)

@@ -1,7 +1,7 @@
 -- What is turned away: the number and the place of each refusal, and the rows by which lent numbers are judged.
 -- Assumes nothing: these are definitions.
-use Rattle.std.specs.Prelude.{◌≡◌, ℕ, ◌+◌, ◌*◌, ◌/◌, ◌%◌, not, ◌||◌, List, [], ◌∷◌, length, Some, None, Ok, Err, Option, Result, ◌==◌, nat_le, nat_lt, slice_index}
-use Rattle.std.specs.Option.{option_or, option_map}
+use Rattle.std.specs.Prelude.{ℕ, ◌+◌, ◌*◌, ◌/◌, ◌%◌, not, ◌||◌, List, [], ◌∷◌, length, Option, ◌==◌, nat_le, nat_lt, slice_index}
+use Rattle.std.specs.Option.{option_map}
 use Rattle.std.specs.Bool.{then_some}
 use Rattle.sets.specs.Sets.{Set, first}
 use Rattle.frame.specs.declared.refusal.Lent.{Lent}
@@ -39,21 +39,6 @@ place (ListNumbers k) = k
 place (GroupNumbers n) = n
 place (NoSuchBar k) = k.0
 place SmallGroup = 0
-
--- the first row that applies is the answer
-abbrev pub first_of : List (Option Refusal) → Option Refusal
-first_of [] = None
-first_of (row ∷ rows) = option_or row (first_of rows)
-
--- what a judge of one or more rows answers: nothing, or the refusal
-abbrev pub Judged : Result (Unit {0}) Refusal → Option Refusal → Type 0
-Judged (Ok _) row = row ≡ None
-Judged (Err e) row = row ≡ Some e
-
--- what a call answers: the first of its rows that applies, or, where none does, a value of which more is said
-abbrev pub Answered : {A : Type 0} → (says : A → Type 0) → Result A Refusal → List (Option Refusal) → Type 0
-Answered says (Ok a) rows = (first_of rows ≡ None) × says a
-Answered says (Err e) rows = first_of rows ≡ Some e
 
 -- 1: fewer than 2 joints, or more than 512
 abbrev pub joints_row : ℕ → Option Refusal

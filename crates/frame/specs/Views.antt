@@ -1,27 +1,16 @@
--- What lent numbers mean, as a frame and as a set of bars, and what the calls over them answer. Assumes nothing: these are definitions.
-use Rattle.std.specs.Prelude.{◌≡◌, ℕ, ◌+◌, ◌*◌, ◌/◌, ◌≤◌, List, map, length, Some, None, Ok, Err, Result, ◌==◌, slice_index}
-use Rattle.std.specs.List.{range_with_len}
+-- What the frames and sets of the code mean, and what the calls that make them answer. Assumes nothing: these are definitions.
+use Rattle.std.specs.Prelude.{◌≡◌, ℕ, List, length, Some, None, Ok, Err, Result}
 use Rattle.sets.specs.Sets.{Set}
-use Rattle.frame.specs.Frame.{Bar, Frame, Sound, size}
-use Rattle.frame.specs.Refusals.{first_of, frame_rows, set_rows}
+use Rattle.frame.specs.Frame.{Bar, Frame, Allowed, size}
+use Rattle.frame.specs.Lent.{frame_in, set_in}
+use Rattle.frame.specs.Answers.{first_of}
+use Rattle.frame.specs.Refusals.{frame_rows, set_rows}
 use Rattle.sets.specs.declared.ids.Ends.{Ends}
 use Rattle.frame.specs.declared.views.BarSet.{BarSet}
 use Rattle.frame.specs.declared.views.Frame.{Frame as LentFrame}
 use Rattle.frame.specs.declared.refusal.Refusal.{Refusal}
 
--- bar k has the two numbers at 2k and 2k + 1
-unfoldable pub bars_in : List ℕ → List Bar
-bars_in xs = map (λ k. record { one = slice_index xs (2 * k); two = slice_index xs (2 * k + 1) }) (range_with_len 0 (length xs / 2))
-
--- the frame that a number of joints and the numbers of the bars mean
-abbrev pub frame_in : ℕ → List ℕ → Frame
-frame_in joints xs = record { joints = joints; bars = bars_in xs }
-
--- the set that marks mean: the places that have 1
-unfoldable pub set_in : List ℕ → Set
-set_in marks k = slice_index marks k == 1
-
--- the same of a frame and of a set that the code has
+-- the frame that a frame of the code is, and likewise the marks and the set of a set of bars
 abbrev pub frame_of : LentFrame → Frame
 frame_of f = frame_in f.joints f.bars.now
 
@@ -33,13 +22,6 @@ set_of s = set_in (marks_of s)
 
 abbrev pub bar_of : Ends → Bar
 bar_of e = record { one = e.one.0; two = e.two.0 }
-
--- a frame that is looked at: a sound one with 2 to 512 joints and at most 2,048 bars
-pub record Allowed (f : Frame) : Type 0 where
-  pub sound : Sound f
-  pub least_joints : 2 ≤ f.joints
-  pub most_joints : f.joints ≤ 512
-  pub most_bars : size f ≤ 2048
 
 -- a frame is made of just what is lent, where no row applies; else the first row that does is the answer
 abbrev pub Made : Result LentFrame Refusal → (joints : ℕ) (bars : List ℕ) → Type 0

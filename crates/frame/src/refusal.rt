@@ -3,6 +3,8 @@ ghost use Rattle.std.specs.Prelude.{◌≡◌};
 ghost use Rattle.frame.specs.Refusals.{number, place};
 
 use sets::BarId;
+use std::error::Error;
+use std::fmt;
 
 // What has the wrong length: marks that are read, or room that is written to.
 #[derive(Clone, Copy, PartialEq, Eq, Debug)]
@@ -73,3 +75,16 @@ impl Refusal {
         }
     }
 }
+
+impl fmt::Display for Refusal {
+    ghost use Rattle.std.specs.Prelude.{Some};
+    ghost use Rattle.frame.specs.Texts.{refusal_text};
+
+    ghost output = { λ refusal. Some (refusal_text refusal) };
+
+    fn fmt<W: fmt::Write>(&self, f: &mut fmt::Formatter<W>) -> fmt::Result {
+        write!(f, "turned away by {} at {}", self.number(), self.place())
+    }
+}
+
+impl Error for Refusal {}

@@ -2,7 +2,8 @@
 // applies is the answer. The rows that judge a frame stand beside `Frame::new`, which alone judges them.
 ghost use Rattle.std.specs.Prelude.{◌≡◌, length};
 ghost use Rattle.sets.specs.Sets.{first};
-ghost use Rattle.frame.specs.Refusals.{Judged, length_row, no_mark, marks_row};
+ghost use Rattle.frame.specs.Answers.{Judged};
+ghost use Rattle.frame.specs.Refusals.{length_row, no_mark, marks_row};
 
 use crate::refusal::{Lent, Refusal};
 

@@ -2,8 +2,9 @@
 use Rattle.std.specs.Prelude.{◌≡◌, ℕ, List, ◌++◌, Some, None, Ok, Err, Option, Result}
 use Rattle.sets.specs.Sets.{Set, count}
 use Rattle.frame.specs.Frame.{size, induced}
-use Rattle.frame.specs.Refusals.{first_of, frame_rows, set_rows}
-use Rattle.frame.specs.Views.{frame_in, set_in}
+use Rattle.frame.specs.Answers.{first_of}
+use Rattle.frame.specs.Refusals.{frame_rows, set_rows}
+use Rattle.frame.specs.Lent.{frame_in, set_in}
 use Rattle.frame.specs.declared.refusal.Refusal.{Refusal}
 use Rattle.look.specs.declared.Tally.{Tally}
 

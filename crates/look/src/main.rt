@@ -61,11 +61,7 @@ fn main(rt: HostRuntime) -> anyhow::Result<()> {
             Ok(())
         }
         Err(refusal) => {
-            println!(rt;
-                "turned away by {} at {}",
-                refusal.number(),
-                refusal.place()
-            )?;
+            println!(rt; "{refusal}")?;
             Err(anyhow!("the frame is turned away"))
         }
     }

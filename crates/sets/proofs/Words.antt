@@ -6,7 +6,7 @@ use lib.Dec.{eqb-suc-zero, eqb-zero-suc, eqb-suc-suc, leb-suc-suc}
 use lib.Bits.{bit_and, bit_or, bit_xor, and_shr, and_mod, or_shr, or_mod, xor_shr, xor_mod, xor_add_and, or_lt}
 use lib.Count.{ones, ones_in, count_trailing_zeros, under, ones_cat}
 use Rattle.std.proofs.lemmas.Nat.{mod_below, and_mask, and_comm, shr-shr, pow_pos, pow_below, one_shl, mod-pow-add}
-use Rattle.std.proofs.lemmas.List.{get_or_past, get_or-set_same, get_or-set_other, length-set}
+use Rattle.std.proofs.lemmas.List.{get_or_past, get_or-set_same, get_or-set_other}
 use Rattle.std.proofs.lemmas.Bool.{cases_eq, cases_lt, ne_eqb, eq-eqb, lt-ltb, le-ltb, or_left, both_ways}
 use Rattle.std.proofs.lemmas.Bool.Decides.{nat_tests}
 use Rattle.sets.proofs.Counts.{count_same, count_plus}
@@ -147,43 +147,21 @@ of_zeros n = fun_ext (λ j. rw (zero_at n (j / 64)) (bits_zero (j % 64)))
     zero_at (suc m) zero = refl
     zero_at (suc m) (suc i) = zero_at m i
 
--- an operation with the words of ys has been done on the first k words of xs, in place; ws is what stands there now
-pub record Done (f : ℕ → ℕ → ℕ) (xs ys ws : List ℕ) (k : ℕ) : Type 0 where
-  pub size : length ws ≡ length xs
-  pub done : (i : ℕ) → i < k → get_or ws i 0 ≡ f (get_or xs i 0) (get_or ys i 0)
-  pub left : (i : ℕ) → k ≤ i → get_or ws i 0 ≡ get_or xs i 0
-
-pub done_none : (f : ℕ → ℕ → ℕ) (xs ys : List ℕ) → Done f xs ys xs 0
-done_none f xs ys = record { size = refl; done = λ i l. absurd (omega arith); left = λ i l. refl }
-
-pub done_more : (f : ℕ → ℕ → ℕ) (xs ys ws : List ℕ) (k : ℕ) → k < length ws → Done f xs ys ws k → Done f xs ys (set ws k (f (get_or ws k 0) (get_or ys k 0))) (k + 1)
-done_more f xs ys ws k lt h =
-    record {
-      size = length-set ws k (f (get_or ws k 0) (get_or ys k 0)) ∙ h.size;
-      done =
-          λ i l.
-          elim (cases_eq i k) [
-            | inl e ↦ rw e (get_or-set_same ws k (f (get_or ws k 0) (get_or ys k 0)) 0 lt ∙ ap (λ x. f x (get_or ys k 0)) (h.left k (omega arith)))
-            | inr ne ↦ get_or-set_other ws k i (f (get_or ws k 0) (get_or ys k 0)) 0 ne ∙ h.done i (omega arith)
-          ];
-      left = λ i l. get_or-set_other ws k i (f (get_or ws k 0) (get_or ys k 0)) 0 (omega arith) ∙ h.left i (omega arith);
-    }
-
--- done on all words, it is an operation on each number
-pub done_all :
+-- an operation done on each word is an operation on each number
+pub of_each :
     (f : ℕ → ℕ → ℕ) (g : Bool → Bool → Bool) → ((a b i : ℕ) → bits (f a b) i ≡ g (bits a i) (bits b i)) → f 0 0 ≡ 0 → (xs ys ws : List ℕ) (n : ℕ) →
-    length xs ≤ n → length ys ≤ n → Done f xs ys ws n → bits_of ws ≡ (λ j. g (bits_of xs j) (bits_of ys j))
+    length xs ≤ n → length ys ≤ n → length ws ≤ n → ((k : ℕ) → k < n → get_or ws k 0 ≡ f (get_or xs k 0) (get_or ys k 0)) → bits_of ws ≡ (λ j. g (bits_of xs j) (bits_of ys j))
 unfolding bits_of
-done_all f g each none_too xs ys ws n few few' h = fun_ext (λ j. rw (word (j / 64)) (each (get_or xs (j / 64) 0) (get_or ys (j / 64) 0) (j % 64)))
+of_each f g each none_too xs ys ws n few few' few'' h = fun_ext (λ j. rw (word (j / 64)) (each (get_or xs (j / 64) 0) (get_or ys (j / 64) 0) (j % 64)))
   where
     word : (k : ℕ) → get_or ws k 0 ≡ f (get_or xs k 0) (get_or ys k 0)
     word k =
         elim (cases_lt k n) [
-          | inl l ↦ h.done k l
+          | inl l ↦ h k l
           | inr g ↦
               let x : get_or xs k 0 ≡ 0 = get_or_past xs k 0 (omega arith) in
               let y : get_or ys k 0 ≡ 0 = get_or_past ys k 0 (omega arith) in
-              h.left k g ∙ rw (x, y) (sym none_too)
+              get_or_past ws k 0 (omega arith) ∙ rw (x, y) (sym none_too)
         ]
 
 -- past the last word there is nothing
@@ -237,31 +215,15 @@ of_remove ws x lt = fun_ext (λ j. rw (one_at x) (of_write ws x _ false lt cut j
         bits_not 64 (2 ^ (x % 64)) i (pow_below (x % 64) 64 (omega arith)) l ∙ ap not (bits_one (x % 64) i) in
         bits_and w ((2 ^ 64 - 1) - 2 ^ (x % 64)) i ∙ ap (λ t. bits w i && t) others ∙ sym (either_way (eqb i (x % 64)) (bits w i))
 
--- the first k words have the bits of the numbers below n
-pub record Low (n : ℕ) (ws : List ℕ) (k : ℕ) : Type 0 where
-  pub size : length ws ≡ 8
-  pub low : (w : ℕ) → w < k → (i : ℕ) → i < 64 → bits (get_or ws w 0) i ≡ ltb i (n - 64 * w)
-
-pub low_more : (n : ℕ) (ws : List ℕ) (k v : ℕ) → k < 8 → ((i : ℕ) → i < 64 → bits v i ≡ ltb i (n - 64 * k)) → Low n ws k → Low n (set ws k v) (k + 1)
-low_more n ws k v lt here h =
-    record {
-      size = length-set ws k v ∙ h.size;
-      low =
-          λ w l i b.
-          elim (cases_eq w k) [
-            | inl e ↦ rw e (ap (λ x. bits x i) (get_or-set_same ws k v 0 (omega (arith, h.size))) ∙ here i b)
-            | inr ne ↦ ap (λ x. bits x i) (get_or-set_other ws k w v 0 ne) ∙ h.low w (omega arith) i b
-          ];
-    }
-
-pub of_below : (n : ℕ) (ws : List ℕ) (k : ℕ) → 8 ≤ k → Low n ws k → bits_of ws ≡ below (min n 512)
+-- words that have the bits of the numbers below n
+pub of_below : (n : ℕ) (ws : List ℕ) → length ws ≡ 8 → ((w : ℕ) → w < 8 → (i : ℕ) → i < 64 → bits (get_or ws w 0) i ≡ ltb i (n - 64 * w)) → bits_of ws ≡ below (min n 512)
 unfolding bits_of
-of_below n ws k all h =
+of_below n ws eight low =
     fun_ext
     (λ j.
     elim (cases_lt (j / 64) 8) [
-      | inl l ↦ let e : ltb (j % 64) (n - 64 * (j / 64)) ≡ ltb j (min n 512) = grind (arith, nat_tests) in h.low (j / 64) (omega arith) (j % 64) (omega arith) ∙ e
-      | inr g ↦ of_past ws j (omega (arith, h.size)) ∙ sym (le-ltb j (min n 512) (omega arith))
+      | inl l ↦ let e : ltb (j % 64) (n - 64 * (j / 64)) ≡ ltb j (min n 512) = grind (arith, nat_tests) in low (j / 64) (omega arith) (j % 64) (omega arith) ∙ e
+      | inr g ↦ of_past ws j (omega arith) ∙ sym (le-ltb j (min n 512) (omega arith))
     ])
 
 -- a part of a set, by words

@@ -1,10 +1,11 @@
 // A set of joints, one bit each, in words of 64 bits.
-ghost use Rattle.std.specs.Prelude.{◌≡◌, ℕ, ◌<◌, ◌≤◌, min, true, false, not, ◌&&◌, Decides, nat_lt};
+ghost use Rattle.std.specs.Prelude.{slice_index, ◌≡◌, ℕ, ◌<◌, ◌≤◌, min, true, false, not, ◌&&◌, Decides, nat_lt};
 ghost use Rattle.std.specs.Option.{option_map};
 ghost use Rattle.sets.specs.Sets.{none, below, also, less, both, either, Within, count, first};
 ghost use Rattle.sets.specs.Words.{bits, members};
 
 use crate::ids::{Ends, JointId};
+use std::array;
 
 // A set can have the joints below this one.
 pub const CAPACITY: u16 = 512;
@@ -13,7 +14,7 @@ pub const CAPACITY: u16 = 512;
 const WORDS: usize = 8;
 
 // A set of joints below 512.
-#[derive(Clone, Copy)]
+#[derive(Clone, Copy, PartialEq, Eq, Debug)]
 pub struct JointSet {
     words: [u64; WORDS],
 }
@@ -30,11 +31,9 @@ impl JointSet {
     pub fn below(n: u64) -> JointSet
         ensures { members result ≡ below (min n 512) }
     {
-        let mut words = [0; WORDS];
-        for k in 0..WORDS {
-            words[k] = low_bits(n.saturating_sub(64 * k as u64));
+        JointSet {
+            words: array::from_fn(|k| low_bits(n.saturating_sub(64 * k as u64))),
         }
-        JointSet { words }
     }
 
     // Whether a joint is in the set. A joint past 511 is in none.
@@ -42,11 +41,9 @@ impl JointSet {
         ensures value { result ≡ members self.now joint.0 }
         ensures past { 512 ≤ joint.0 → result ≡ false }
     {
-        let word = joint.0 as usize / 64;
-        if word >= WORDS {
-            return false;
-        }
-        self.words[word] >> (joint.0 % 64) & 1 == 1
+        self.words
+            .get(joint.0 as usize / 64)
+            .is_some_and(|word| word >> (joint.0 % 64) & 1 == 1)
     }
 
     // Whether both ends of a bar are in the set.
@@ -85,30 +82,32 @@ impl JointSet {
     pub fn intersection(&self, other: &JointSet) -> JointSet
         ensures { members result ≡ both (members self.now) (members other.now) }
     {
-        let mut words = self.words;
-        for k in 0..WORDS {
-            words[k] &= other.words[k];
-        }
-        JointSet { words }
+        self.by_word(other, |a, b| a & b)
     }
 
     // What is in one of the two sets at least.
     pub fn union(&self, other: &JointSet) -> JointSet
         ensures { members result ≡ either (members self.now) (members other.now) }
     {
-        let mut words = self.words;
-        for k in 0..WORDS {
-            words[k] |= other.words[k];
+        self.by_word(other, |a, b| a | b)
+    }
+
+    // The set whose words are made, each of the words of both at its place.
+    fn by_word<F: Fn(u64, u64) -> u64>(&self, other: &JointSet, f: F) -> JointSet
+        requires { F.IsAlwaysCallable f }
+        ensures { (k : ℕ) → k < 8 → F.post f (slice_index self.now.words k) (slice_index other.now.words k) (slice_index result.words k) }
+    {
+        JointSet {
+            words: array::from_fn(|k| f(self.words[k], other.words[k])),
         }
-        JointSet { words }
     }
 
     // Whether every joint of this set is in the other.
     pub fn is_subset(&self, other: &JointSet) -> bool
         ensures { Decides result (Within (members self.now) (members other.now)) }
     {
-        for k in 0..WORDS {
-            if self.words[k] | other.words[k] != other.words[k] {
+        for (a, b) in self.words.iter().zip(&other.words) {
+            if a | b != *b {
                 return false;
             }
         }
@@ -119,9 +118,9 @@ impl JointSet {
     pub fn first(&self) -> Option<JointId>
         ensures { option_map (λ j. j.0) result ≡ first 512 (members self.now) }
     {
-        for k in 0..WORDS {
-            if self.words[k] != 0 {
-                return Some(JointId(64 * k as u16 + self.words[k].trailing_zeros() as u16));
+        for (k, word) in self.words.iter().enumerate() {
+            if *word != 0 {
+                return Some(JointId(64 * k as u16 + word.trailing_zeros() as u16));
             }
         }
         None
@@ -132,8 +131,8 @@ impl JointSet {
         ensures { result ≡ count 512 (members self.now) }
     {
         let mut n: u64 = 0;
-        for w in 0..WORDS {
-            n += self.words[w].count_ones() as u64;
+        for word in &self.words {
+            n += word.count_ones() as u64;
         }
         n
     }

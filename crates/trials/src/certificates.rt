@@ -76,23 +76,16 @@ struct Example<'a> {
     alone: &'a str,
 }
 
-// The digit for 0; those for 1 and above follow it.
-const ZERO: u8 = 48;
-
 // The numbers that digits mean, one each; blanks are for the reader.
 fn digits(heap: Global, text: &str) -> Result<Vec<u8>, AllocError> {
-    let mut numbers = Vec::new(heap);
-    for byte in text.bytes() {
-        if byte >= ZERO {
-            numbers.push(byte - ZERO)?;
-        }
-    }
-    Ok(numbers)
+    text.bytes()
+        .filter_map(|byte| byte.checked_sub(b'0'))
+        .collect(heap)
 }
 
 impl<'a> Example<'a> {
     // What the list shows of the part.
-    fn list(&self, heap: Global) -> Result<Result<ListVerdict, Refusal>, AllocError> {
+    fn list(&self, heap: Global) -> Result<Result<Result<(), Overfull>, Refusal>, AllocError> {
         let part = digits(heap, self.part)?;
         let list = digits(heap, self.list)?;
         Ok(check_list(self.shape.joints, self.shape.bars, &part, &list))
@@ -171,7 +164,7 @@ fn right_ones(rt: HostRuntime) -> Result<(), Fail> {
         (right(TRIANGLE, "000", "000", NO_MATTER, "", "000"), 0),
     ];
     for (example, size) in cases {
-        assert_eq!(rt; example.list(rt.alloc())?, Ok(ListVerdict::Accepted));
+        assert_eq!(rt; example.list(rt.alloc())?, Ok(Ok(())));
         assert_eq!(rt; example.sheet(rt.alloc())?, Ok(SheetVerdict::Bound(size)));
         assert_eq!(rt;
             example.both(rt.alloc())?,
@@ -186,8 +179,8 @@ const fn list<'a>(shape: Shape<'a>, part: &'a str, list: &'a str) -> Example<'a>
     right(shape, "", part, list, "", "")
 }
 
-const fn wrong(row: u32, joint: u16) -> Result<ListVerdict, Refusal> {
-    Ok(ListVerdict::Overfull(Overfull {
+const fn wrong(row: u32, joint: u16) -> Result<Result<(), Overfull>, Refusal> {
+    Ok(Err(Overfull {
         row: BarId(row),
         joint: JointId(joint),
     }))
@@ -214,12 +207,9 @@ fn lists_that_are_wrong(rt: HostRuntime) -> Result<(), Fail> {
                 "01111",
                 "01001111 00100011 10010011 10001011 10100011",
             ),
-            Ok(ListVerdict::Accepted),
+            Ok(Ok(())),
         ),
-        (
-            list(TRIANGLE, "011", "111111 100011 000011"),
-            Ok(ListVerdict::Accepted),
-        ),
+        (list(TRIANGLE, "011", "111111 100011 000011"), Ok(Ok(()))),
     ];
     for (example, verdict) in cases {
         assert_eq!(rt; example.list(rt.alloc())?, verdict);
@@ -482,10 +472,7 @@ fn parts_that_are_refused(rt: HostRuntime) -> Result<(), Fail> {
 // As many groups as there can be, and one more.
 #[test]
 fn most_groups(rt: HostRuntime) -> Result<(), Fail> {
-    let mut groups = Vec::new(rt.alloc());
-    for _ in 0..2048 {
-        groups.push(1)?;
-    }
+    let mut groups = vec![in rt.alloc(); 1; 2048]?;
     let most = check_sheet(DOUBLE.joints, DOUBLE.bars, &[1, 1], &groups, &[0, 0]);
     assert_eq!(rt; most, Ok(SheetVerdict::Bound(1024)));
     groups.push(1)?;

@@ -6,20 +6,12 @@ use std::test::Fail;
 
 // The refusal of a frame, if it is refused.
 fn refusal(joints: u64, bars: &[u16]) -> Option<Refusal> {
-    match Frame::new(joints, bars) {
-        Ok(_) => None,
-        Err(refusal) => Some(refusal),
-    }
+    Frame::new(joints, bars).err()
 }
 
 // The numbers of so many bars between joints 0 and 1.
 fn bars(heap: Global, n: usize) -> Result<Vec<u16>, AllocError> {
-    let mut numbers = Vec::new(heap);
-    for _ in 0..n {
-        numbers.push(0)?;
-        numbers.push(1)?;
-    }
-    Ok(numbers)
+    [0, 1].repeat(heap, n)
 }
 
 // A frame, and the refusal that it is answered with.

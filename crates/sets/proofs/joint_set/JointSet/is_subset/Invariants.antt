@@ -1,6 +1,6 @@
-use Rattle.std.proofs.Common.{◌≡◌, ℕ, ◌<◌, get_or}
+use Rattle.std.proofs.Common.{◌≡◌, ℕ, ◌<◌, length, slice_index}
 use lib.Bits.{bit_or}
 use Rattle.sets.proofs.joint_set.JointSet.is_subset.Given as goal
 
-abbrev pub invariant-loop-k : goal.invariant-loop-k
-invariant-loop-k l = (i : ℕ) → i < l.k → bit_or (get_or l.self.words i 0) (get_or l.other.words i 0) ≡ get_or l.other.words i 0
+abbrev pub invariant-loop-a : goal.invariant-loop-a
+invariant-loop-a l = (k : ℕ) → k < length l.yielded → bit_or (slice_index l.self.words k) (slice_index l.other.words k) ≡ slice_index l.other.words k

@@ -1,13 +1,7 @@
-use Rattle.std.proofs.Common.{◌||◌, refl, arith}
+use Rattle.std.proofs.Common.{◌||◌, refl, rules, arith}
 use lib.Bits.{bit_or}
-use Rattle.sets.proofs.Words.{bits_or, done_none, done_more, done_all}
+use Rattle.sets.proofs.Words.{bits_or, of_each}
 use Rattle.sets.proofs.joint_set.JointSet.union.Goals as goal
 
-pub loop-k-init : goal.loop-k-init
-loop-k-init c = done_none bit_or c.args.self.now.words c.args.other.now.words
-
-pub loop-k-preserved : goal.loop-k-preserved
-loop-k-preserved c = done_more bit_or c.args.self.now.words c.args.other.now.words c.loop-k.words c.loop-k.k (omega arith) c.loop-k.invariant
-
 pub returns : goal.returns
-returns c = done_all bit_or ◌||◌ bits_or refl c.args.self.now.words c.args.other.now.words c.loop-k.words c.loop-k.k (omega arith) (omega arith) c.loop-k.invariant
+returns c = of_each bit_or ◌||◌ bits_or refl c.args.self.now.words c.args.other.now.words c.by_word.result.words 8 (omega arith) (omega arith) (omega arith) (λ k l. let word = c.by_word.ensures k l in search (rules, word))

@@ -1,7 +1,0 @@
-use Rattle.sets.specs.Words.{members}
-use Rattle.frame.specs.Views.{frame_of}
-use Rattle.certificate.proofs.Groups.{Covering}
-use Rattle.certificate.proofs.checkers.cover.Given as goal
-
-abbrev pub invariant-loop-k : goal.invariant-loop-k
-invariant-loop-k l = Covering (frame_of l.frame) (members l.group) l.initial.covered l.covered l.k

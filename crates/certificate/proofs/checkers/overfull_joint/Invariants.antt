@@ -1,5 +1,0 @@
-use Rattle.std.proofs.Common.{◌≡◌, ℕ, ◌<◌, ◌≤◌, get_or, None}
-use Rattle.certificate.proofs.checkers.overfull_joint.Given as goal
-
-abbrev pub invariant-joints : goal.invariant-joints
-invariant-joints l = (l.found ≡ None) × ((j : ℕ) → j < l.joint → get_or l.counts j 0 ≤ 2)

@@ -1,8 +1,0 @@
-use Rattle.std.proofs.Common.{◌≡◌}
-use Rattle.sets.specs.Sets.{below, both}
-use Rattle.sets.specs.Words.{members}
-use Rattle.frame.specs.Views.{set_in}
-use Rattle.certificate.proofs.checkers.read_group.Given as goal
-
-abbrev pub invariant-loop-j : goal.invariant-loop-j
-invariant-loop-j l = members l.group ≡ both (set_in l.marks) (below l.j)

@@ -1,0 +1,10 @@
+use Rattle.std.proofs.Common.{◌≡◌, ℕ, ◌<◌, true, None, Ok}
+use Rattle.sets.specs.Sets.{first}
+use Rattle.frame.specs.Views.{frame_of, set_of}
+use Rattle.certificate.specs.Lists.{crowded, list_in}
+use Rattle.certificate.proofs.list.List.shows_free.Given as goal
+
+abbrev pub invariant-rows : goal.invariant-rows
+invariant-rows l =
+    (l.verdict ≡ Ok tt)
+    × ((i : ℕ) → i < l.k → set_of l.set i ≡ true → first (frame_of l.self.frame).joints (crowded (frame_of l.self.frame) (set_of l.set) i (list_in (frame_of l.self.frame) l.self.numbers.now i)) ≡ None)

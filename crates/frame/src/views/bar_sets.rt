@@ -1,0 +1,64 @@
+// Sets of bars: how one is made of lent marks, or refused, and how many bars it has.
+ghost use Rattle.std.specs.Prelude.{◌≡◌, ◌&&◌, length, nat_lt};
+ghost use Rattle.sets.specs.Sets.{count};
+ghost use Rattle.sets.specs.Words.{members};
+ghost use Rattle.frame.specs.Frame.{size, among, induced};
+ghost use Rattle.frame.specs.Views.{frame_of, marks_of, set_of, Marked};
+
+use crate::refusal::{Lent, Refusal};
+use crate::rows::{IN_SET, judge_length, judge_marks};
+use crate::views::{BarSet, Frame};
+use sets::{BarId, JointSet};
+
+impl<'a> BarSet<'a> {
+    // The set of the bars of a frame that are marked; or the first row that refuses the marks.
+    pub fn new(frame: &Frame<'_>, marks: &'a [u8]) -> Result<BarSet<'a>, Refusal>
+        ensures { Marked result (frame_of frame.now) marks.now }
+    {
+        judge_length(Lent::Marks, marks.len(), frame.bar_count())?;
+        judge_marks(marks)?;
+        Ok(BarSet { marks })
+    }
+
+    // The set of the bars whose mark is 1, whatever the other marks are: nothing is judged. It is for calls that judge several sets at once, and
+    // make them afterwards.
+    pub fn from_marks(marks: &'a [u8]) -> BarSet<'a>
+        ensures { marks_of result ≡ marks.now }
+    {
+        Self { marks }
+    }
+
+    // Whether a bar is in the set. A bar past the marks is not.
+    pub fn contains(&self, bar: BarId) -> bool
+        ensures { result ≡ set_of self.now bar.0 }
+    {
+        self.marks.get(bar.0 as usize) == Some(&IN_SET)
+    }
+
+    // How many bars are in the set.
+    pub fn len(&self) -> usize
+        ensures { result ≡ count (length (marks_of self.now)) (set_of self.now) }
+    {
+        self.marks.iter().filter(|mark| **mark == IN_SET).count()
+    }
+
+    // How many bars of the set are among some joints: both ends are.
+    pub fn among(&self, frame: &Frame<'_>, joints: &JointSet) -> usize
+        ensures { result ≡ induced (frame_of frame.now) (members joints.now) (set_of self.now) }
+    {
+        let mut total: usize = 0;
+        for k in 0..frame.bar_count() as u32 {
+            if self.has_among(frame, joints, BarId(k)) {
+                total += 1;
+            }
+        }
+        total
+    }
+
+    // Whether a bar of the frame is in the set with both its ends among some joints.
+    fn has_among(&self, frame: &Frame<'_>, joints: &JointSet, bar: BarId) -> bool
+        ensures { result ≡ (nat_lt bar.0 (size (frame_of frame.now)) && among (frame_of frame.now) (members joints.now) (set_of self.now) bar.0) }
+    {
+        self.contains(bar) && frame.is_among(bar, joints)
+    }
+}
