@@ -1,5 +1,5 @@
 // Bars on a board: how they are placed, moved on and taken out, and what is refused.
-use pebble::{Board, Fault, Gathering, Item, Room};
+use pebble::{Board, Fault, Item, Short, Stuck};
 use sets::{BarId, Ends, JointId, JointSet};
 use std::process::Abort;
 use std::test::Fail;
@@ -102,17 +102,14 @@ impl<'a> Shape<'a> {
 
     // The board with no bar on it.
     fn board(&self) -> Result<Board, Fail> {
-        match Board::new(self.joints) {
-            Some(board) => Ok(board),
-            None => Err(Fail::new("too many joints")),
-        }
+        Board::new(self.joints).ok_or_else(|| Fail::new("too many joints"))
     }
 
     // The board with all bars, each at its first end.
     fn full(&self, rt: &impl Abort) -> Result<Board, Fail> {
         let mut board = self.board()?;
-        for k in 0..self.bars.len() {
-            let item = self.item(k).ok_or("no such bar")?;
+        for (k, (one, two)) in self.bars.iter().enumerate() {
+            let item = bar(u32::try_from(k)?, *one, *two);
             assert_eq!(rt; board.put(item), Ok(item.ends.one));
         }
         Ok(board)
@@ -121,11 +118,8 @@ impl<'a> Shape<'a> {
     // Every slot is as on the board with all bars.
     fn check_full(&self, rt: &impl Abort, board: &Board) -> Result<(), Fail> {
         let full = self.full(rt)?;
-        for joint in 0..512 {
-            assert_eq!(rt;
-                board.items_at(JointId(joint)),
-                full.items_at(JointId(joint))
-            );
+        for joint in (0..512).map(JointId) {
+            assert_eq!(rt; board.items_at(joint), full.items_at(joint));
         }
         Ok(())
     }
@@ -147,11 +141,11 @@ impl<'a> Shape<'a> {
 // Places a bar if four slots can be emptied at its ends, and answers whether it is placed.
 fn place(rt: &impl Abort, board: &mut Board, item: Item) -> Result<bool, Fail> {
     match board.gather(item.ends.one, item.ends.two, 4)? {
-        Gathering::Enough => {
+        Ok(()) => {
             assert_eq!(rt; board.put(item), Ok(item.ends.one));
             Ok(true)
         }
-        Gathering::Short { empty, reached } => {
+        Err(Short { empty, reached }) => {
             assert_eq!(rt; empty, 3);
             assert!(rt; reached.contains_both(item.ends));
             Ok(false)
@@ -198,10 +192,8 @@ fn check_just(rt: &impl Abort, set: JointSet, joints: &[u16]) -> Result<(), Fail
 fn group_around(rt: &impl Abort, shape: Shape, u: JointId, v: JointId) -> Result<JointSet, Fail> {
     let mut board = shape.board()?;
     shape.place(rt, &mut board, &ORDERS[0])?;
-    match board.gather(u, v, 3)? {
-        Gathering::Enough => Ok(board.unreaching(u, v)),
-        Gathering::Short { .. } => Err(Fail::new("no three")),
-    }
+    board.gather(u, v, 3)??;
+    Ok(board.unreaching(u, v))
 }
 
 #[test]
@@ -228,17 +220,17 @@ fn groups_around_bars(rt: HostRuntime) -> Result<(), Fail> {
 
 // Room is made at a joint, and one slot is then empty there.
 fn check_room(rt: &impl Abort, board: &mut Board, joint: JointId) -> Result<(), Fail> {
-    assert!(rt; matches!(board.make_room(joint, &JointSet::empty())?, Room::Made));
+    assert!(rt; board.make_room(joint, &JointSet::empty())?.is_ok());
     assert_eq!(rt; board.empty_slots(joint), Some(1));
     Ok(())
 }
 
 // Where bars 0, 1 and so on lie.
 fn check_joints(rt: &impl Abort, board: &Board, joints: &[u16]) -> Result<(), Fail> {
-    for k in 0..joints.len() {
+    for (k, joint) in joints.iter().enumerate() {
         assert_eq!(rt;
             board.locate(BarId(u32::try_from(k)?)),
-            Some(JointId(joints[k]))
+            Some(JointId(*joint))
         );
     }
     Ok(())
@@ -296,11 +288,11 @@ fn seen(rt: &impl Abort, shape: Shape, kept: &[u16]) -> Result<Option<JointSet>,
         set.insert(JointId(*joint));
     }
     match board.make_room(JointId(0), &set)? {
-        Room::Made => {
+        Ok(()) => {
             assert_eq!(rt; board.empty_slots(JointId(0)), Some(1));
             Ok(None)
         }
-        Room::Stuck(seen) => {
+        Err(Stuck { seen }) => {
             shape.check_full(rt, &board)?;
             Ok(Some(seen))
         }
@@ -362,8 +354,8 @@ fn refused_bars(rt: HostRuntime) -> Result<(), Fail> {
 // There is no such joint for any call.
 fn check_past(rt: &impl Abort, board: &mut Board, joint: JointId) -> Result<(), Fail> {
     assert_eq!(rt;
-        board.make_room(joint, &JointSet::empty()).err(),
-        Some(Fault::JointPast(joint))
+        board.make_room(joint, &JointSet::empty()),
+        Err(Fault::JointPast(joint))
     );
     assert_eq!(rt; board.empty_slots(joint), None);
     assert_eq!(rt; board.items_at(joint), [None, None]);
@@ -380,10 +372,7 @@ fn refused_moves(rt: HostRuntime) -> Result<(), Fail> {
         (1, 1, Fault::EqualJoints(JointId(1))),
     ];
     for (one, two, fault) in cases {
-        assert_eq!(rt;
-            board.gather(JointId(one), JointId(two), 4).err(),
-            Some(fault)
-        );
+        assert_eq!(rt; board.gather(JointId(one), JointId(two), 4), Err(fault));
     }
     for joint in [3, 512, 65535] {
         check_past(&rt, &mut board, JointId(joint))?;
@@ -411,6 +400,13 @@ fn taken_out_and_put_back(rt: HostRuntime) -> Result<(), Fail> {
     FILLED.check_full(&rt, &board)
 }
 
+// Two bars from a joint to the next. The next of the last number is itself.
+fn steps(joint: u16) -> [Item; 2] {
+    let next = joint.saturating_add(1);
+    let first = 2 * joint as u32;
+    [bar(first, joint, next), bar(first + 1, joint, next)]
+}
+
 // Two bars from each joint of the largest board to the next, and a move from the first joint to the last.
 #[test]
 fn largest_board(rt: HostRuntime) -> Result<(), Fail> {
@@ -420,14 +416,12 @@ fn largest_board(rt: HostRuntime) -> Result<(), Fail> {
         bars: &[],
     }
     .board()?;
-    for joint in 0..511 {
-        for number in 0..2 {
-            let item = bar(2 * joint as u32 + number, joint, joint + 1);
-            assert_eq!(rt; board.put(item), Ok(item.ends.one));
-        }
+    for item in (0..511).flat_map(steps) {
+        assert_eq!(rt; board.put(item), Ok(item.ends.one));
     }
     check_just(&rt, board.unreaching(JointId(0), JointId(1)), &[])?;
     check_room(&rt, &mut board, JointId(0))?;
+    // By number, so that what is expected is not taken from `steps`.
     for joint in 0..511 {
         assert_eq!(rt;
             board.locate(BarId(2 * joint as u32)),

@@ -1,3 +1,4 @@
+pub mod Cuts
 pub mod Facts
 pub mod Orientations
 pub mod Bounding

@@ -1,5 +1,5 @@
 -- Lent lists, row by row: a row with no crowded joint keeps its rules.
-use Rattle.std.proofs.Common.{◌≡◌, ℕ, zero, suc, ◌<◌, true, ◌⊎◌, List, Some, None, Option, sym, refl, ◌∙◌, inl, inr, arith}
+use Rattle.std.proofs.Common.{◌≡◌, ℕ, zero, suc, ◌<◌, true, ◌⊎◌, List, Some, None, Option, sym, ap, refl, ◌∙◌, inl, inr, arith}
 use Rattle.std.proofs.lemmas.Bool.{ltb-true, ltb-false}
 use Rattle.sets.specs.Sets.{Set, first}
 use Rattle.sets.proofs.First.{none_first, some_first}
@@ -8,9 +8,9 @@ use Rattle.certificate.specs.Lists.{width, row_of, crowded, Row, ShownFree, end_
 
 -- what is found in a row that is read from a list is what is found in the list there
 pub first_in_row :
-    (f g : Frame) (bs : Set) (list row : List ℕ) (k own : ℕ) (found : Option ℕ) → g ≡ f → own ≡ k → row ≡ row_of (width f) list k →
-    found ≡ first g.joints (crowded g bs own (row_in g own row)) → first f.joints (crowded f bs k (list_in f list k)) ≡ found
-first_in_row f g bs list row k own found same here is h = sym (h ∙ rw (same, here, is) refl)
+    (f : Frame) (bs : Set) (list row : List ℕ) (k : ℕ) (found : Option ℕ) → row ≡ row_of (width f) list k →
+    found ≡ first f.joints (crowded f bs k (row_in f k row)) → first f.joints (crowded f bs k (list_in f list k)) ≡ found
+first_in_row f bs list row k found is h = sym (h ∙ ap (λ xs. first f.joints (crowded f bs k (row_in f k xs))) is)
 
 -- a number names one of the two ends of a bar
 an_end : (b : Bar) (n : ℕ) → (end_of b n ≡ b.one) ⊎ (end_of b n ≡ b.two)

@@ -11,7 +11,7 @@ use Rattle.frame.specs.Lent.{set_in}
 use Rattle.frame.proofs.Among.{among_parts, among_from}
 use Rattle.certificate.specs.Sheets.{Sheet, Covered, Wide, Covers, left_out}
 use Rattle.certificate.specs.Verdicts.{SheetSays}
-use Rattle.certificate.specs.declared.verdict.SheetVerdict.TheVariants.{Bound, Uncovered}
+use Rattle.certificate.specs.declared.verdict.SheetVerdict.TheVariants.{Bound, TooSmall, Uncovered}
 use Rattle.certificate.proofs.Bounding.{sheets_right}
 use Rattle.certificate.proofs.Facts.{in_or_out}
 
@@ -94,3 +94,6 @@ says_uncovered f bs s covered bound k v e =
     let out = and_parts _ _ in_set.1 in
     let no : Covered f bs s k → ⊥ = unmarked f bs s k (not-true _ out.0) (sym (v.marks k w.0) ∙ not-true _ out.1) in
     (v.wide, w.0, in_set.0, no, λ i l b. is_counted f bs s covered bound i v (omega (arith, l, w.0)) (w.2 i l) b, λ covers. no (covers.counted k w.0 in_set.0))
+
+pub says_small : (f : Frame) (bs : Set) (s : Sheet) (covered : List Bool) (bound g : ℕ) → Surveyed f s covered bound g → g < s.groups → count f.joints (s.group g) < 2 → SheetSays (TooSmall (record { 0 = g })) f bs s
+says_small f bs s covered bound g v l c = (l, c, v.wide, λ covers. omega (arith, c, covers.two g l))

@@ -12,8 +12,8 @@ use Rattle.certificate.specs.Rows.{list_rows, sheet_rows, largest_rows}
 use Rattle.certificate.specs.declared.verdict.Overfull.{Overfull}
 use Rattle.certificate.specs.declared.verdict.SheetVerdict.{SheetVerdict}
 use Rattle.certificate.specs.declared.verdict.SheetVerdict.TheVariants.{Bound, TooSmall, Uncovered}
-use Rattle.certificate.specs.declared.verdict.LargestVerdict.{LargestVerdict}
-use Rattle.certificate.specs.declared.verdict.LargestVerdict.TheVariants.{Largest, Outside, ListFails, SheetFails}
+use Rattle.certificate.specs.declared.verdict.NotLargest.{NotLargest}
+use Rattle.certificate.specs.declared.verdict.NotLargest.TheVariants.{Outside, ListFails, SheetFails}
 
 -- row k of a list is the first that gives a joint three items, and j is the first such joint of it
 pub record FirstCrowded (f : Frame) (bs : Set) (at : ℕ → ℕ → ℕ) (k j : ℕ) : Type 0 where
@@ -39,11 +39,11 @@ outside bs xs k = xs k && not (bs k)
 -- a part is accepted as largest exactly if it lies in the set, the list shows that it is free, and the sheet shows just its size as the bound of
 -- the set; then it is a largest free part of the set, of that size. Else it is said what fails first: the first bar of the part that is not in the set,
 -- what is wrong with the list, or what the sheet shows instead
-abbrev pub LargestSays : LargestVerdict → Frame → (bars part : Set) → (at : ℕ → ℕ → ℕ) → Sheet → Type 0
-LargestSays (Largest n) f bs xs at s = Most f bs xs × (n ≡ count (size f) xs) × ShownFree f xs at × Covers f bs s × Bounds f s n
-LargestSays (Outside k) f bs xs at s = first (size f) (outside bs xs) ≡ Some k.0
-LargestSays (ListFails o) f bs xs at s = Part f xs bs × ListSays (Err o) f xs at
-LargestSays (SheetFails v) f bs xs at s = Part f xs bs × ShownFree f xs at × SheetSays v f bs s × (v ≢ Bound (count (size f) xs))
+abbrev pub LargestSays : Result ℕ NotLargest → Frame → (bars part : Set) → (at : ℕ → ℕ → ℕ) → Sheet → Type 0
+LargestSays (Ok n) f bs xs at s = Most f bs xs × (n ≡ count (size f) xs) × ShownFree f xs at × Covers f bs s × Bounds f s n
+LargestSays (Err (Outside k)) f bs xs at s = first (size f) (outside bs xs) ≡ Some k.0
+LargestSays (Err (ListFails o)) f bs xs at s = Part f xs bs × ListSays (Err o) f xs at
+LargestSays (Err (SheetFails v)) f bs xs at s = Part f xs bs × ShownFree f xs at × SheetSays v f bs s × (v ≢ Bound (count (size f) xs))
 
 -- what the calls answer: the first row that applies, or the verdict on what the lent numbers mean
 abbrev pub ListChecked : Result (Result (Unit {0}) Overfull) Refusal → ℕ → (bars chosen list : List ℕ) → Type 0
@@ -56,7 +56,7 @@ SheetChecked r joints bars chosen groups alone =
     let f = frame_in joints bars in
     Answered (λ v. SheetSays v f (set_in chosen) (sheet_in f groups alone)) r (frame_rows joints bars ++ sheet_rows f chosen groups alone)
 
-abbrev pub LargestChecked : Result LargestVerdict Refusal → ℕ → (bars chosen part list groups alone : List ℕ) → Type 0
+abbrev pub LargestChecked : Result (Result ℕ NotLargest) Refusal → ℕ → (bars chosen part list groups alone : List ℕ) → Type 0
 LargestChecked r joints bars chosen part list groups alone =
     let f = frame_in joints bars in
     Answered (λ v. LargestSays v f (set_in chosen) (set_in part) (list_in f list) (sheet_in f groups alone)) r (frame_rows joints bars ++ largest_rows f chosen part list groups alone)

@@ -13,6 +13,7 @@ pub(crate) fn first_bar<F: Fn(BarId) -> bool>(frame: &Frame<'_>, test: F) -> Opt
     requires { F.IsAlwaysCallable test }
     ensures { (s : Set) → ((k : BarId) (b : Bool) → k.0 < size (frame_of frame.now) → F.post test k b → b ≡ s k.0) → option_map (λ k. k.0) result ≡ first (size (frame_of frame.now)) s }
 {
+    // A chain of iterators over the numbers was tried: what it finds could not be proved in the words of sets.
     for k in 0..frame.bar_count() as u32 {
         if test(BarId(k)) {
             return Some(BarId(k));

@@ -1,19 +1,22 @@
-// The checkers of lists and sheets. Each call judges what is lent first, by the rows of refusals in their order, and then counts.
+// The checkers of lists and sheets. Each call judges what is lent first, by the rows of refusals in their order, and then counts. What is lent stays
+// numbers, one parameter each, as calls are made with lent numbers.
 ghost use Rattle.std.specs.Prelude.{◌≡◌, length};
+ghost use Rattle.std.specs.Option.{option_map};
+ghost use Rattle.sets.specs.Sets.{first};
 ghost use Rattle.frame.specs.Frame.{size};
 ghost use Rattle.frame.specs.Views.{frame_of, marks_of, set_of};
 ghost use Rattle.certificate.specs.Lists.{list_in};
 ghost use Rattle.certificate.specs.Sheets.{sheet_in};
-ghost use Rattle.certificate.specs.Verdicts.{ListChecked, SheetChecked, LargestSays, LargestChecked};
+ghost use Rattle.certificate.specs.Verdicts.{ListChecked, SheetChecked, outside, LargestSays, LargestChecked};
 
 use crate::bars::first_bar;
 use crate::list::List;
 pub use crate::list::{COPIES, FIRST_END};
 pub use crate::sheet::MOST_GROUPS;
 use crate::sheet::Sheet;
-use crate::verdict::{LargestVerdict, Overfull, SheetVerdict};
+use crate::verdict::{NotLargest, Overfull, SheetVerdict};
 use frame::rows::{judge_length, judge_marks};
-use frame::{BarSet, Frame, Lent, Refusal};
+use frame::{BarId, BarSet, Frame, Lent, Refusal};
 
 // Whether a list shows that a set of bars is free: for each bar of the set, its row gives every bar of the set, and three further copies of
 // its own bar, to ends of theirs, so that no joint is given more than two.
@@ -63,7 +66,7 @@ pub fn check_largest(
     list: &[u8],
     groups: &[u8],
     alone: &[u8],
-) -> Result<LargestVerdict, Refusal>
+) -> Result<Result<u64, NotLargest>, Refusal>
     ensures { LargestChecked result joints bars.now chosen.now part.now list.now groups.now alone.now }
 {
     let frame = Frame::new(joints, bars)?;
@@ -82,31 +85,39 @@ pub fn check_largest(
     Ok(largest_verdict(&frame, &set, &part, &list, &sheet))
 }
 
-// What a list and a sheet show of a part of a set.
+// The first bar of a part that is not in the set, if there is one.
+fn first_outside(frame: &Frame<'_>, set: &BarSet<'_>, part: &BarSet<'_>) -> Option<BarId>
+    ensures { option_map (λ k. k.0) result ≡ first (size (frame_of frame.now)) (outside (set_of set.now) (set_of part.now)) }
+{
+    first_bar(frame, |bar| part.contains(bar) && !set.contains(bar))
+}
+
+// How many bars a part of a set has, if a list and a sheet show that it is a largest free part; or what is wrong first.
 fn largest_verdict(
     frame: &Frame<'_>,
     set: &BarSet<'_>,
     part: &BarSet<'_>,
     list: &List<'_>,
     sheet: &Sheet<'_>,
-) -> LargestVerdict
+) -> Result<u64, NotLargest>
     requires list { list.now.frame ≡ frame.now }
     requires sheet { sheet.now.frame ≡ frame.now }
     requires marks { length (marks_of part.now) ≡ size (frame_of frame.now) }
     ensures { LargestSays result (frame_of frame.now) (set_of set.now) (set_of part.now) (list_in (frame_of frame.now) list.now.numbers.now) (sheet_in (frame_of frame.now) sheet.now.groups.now (marks_of sheet.now.alone)) }
 {
-    if let Some(bar) = first_bar(frame, |bar| part.contains(bar) && !set.contains(bar)) {
-        return LargestVerdict::Outside(bar);
+    // Not `ok_or`: what is found is the error. Not `map_err` for the list: it was tried, and its proof did not close.
+    if let Some(bar) = first_outside(frame, set, part) {
+        return Err(NotLargest::Outside(bar));
     }
     if let Err(wrong) = list.shows_free(part) {
-        return LargestVerdict::ListFails(wrong);
+        return Err(NotLargest::ListFails(wrong));
     }
     let size = part.len() as u64;
     let shown = sheet.bounds(set);
     if let SheetVerdict::Bound(bound) = shown {
         if bound == size {
-            return LargestVerdict::Largest(size);
+            return Ok(size);
         }
     }
-    LargestVerdict::SheetFails(shown)
+    Err(NotLargest::SheetFails(shown))
 }

@@ -10,4 +10,4 @@ mod sheet;
 pub mod verdict;
 
 pub use checkers::{check_largest, check_list, check_sheet};
-pub use verdict::{GroupId, LargestVerdict, Overfull, SheetVerdict};
+pub use verdict::{GroupId, NotLargest, Overfull, SheetVerdict};

@@ -6,7 +6,7 @@ ghost use Rattle.sets.specs.Sets.{first};
 ghost use Rattle.frame.specs.Frame.{size, bar_at};
 ghost use Rattle.frame.specs.Answers.{Answered};
 ghost use Rattle.frame.specs.Views.{frame_of, set_of, bar_of};
-ghost use Rattle.certificate.specs.Lists.{width, row_of, item, given, crowded, end_of, row_in, list_in};
+ghost use Rattle.certificate.specs.Lists.{width, item, given, crowded, end_of, row_in, list_in};
 ghost use Rattle.certificate.specs.Rows.{list_row};
 ghost use Rattle.certificate.specs.Verdicts.{ListSays};
 
@@ -18,13 +18,13 @@ use frame::{BarId, BarSet, Ends, Frame, JointId, Refusal};
 // How many further copies of its own bar a row of a list gives to joints.
 pub const COPIES: usize = 3;
 
-// The number of a list for the first end of a bar; that for the second is 1.
+// The number of a list for the first end of a bar; that for the second is 1. It is a number, as lists are lent.
 pub const FIRST_END: u8 = 0;
 
 // The most items that a row may give to one joint.
 const MOST_GIVEN: u16 = 2;
 
-// How many joints a table of counts is for.
+// How many joints a table of counts is for. The table is fixed, since nothing is allocated.
 const TABLE: usize = MOST_JOINTS as usize;
 
 // A list for a frame: a row for each bar, of a number for each item.
@@ -54,6 +54,7 @@ impl<'a> List<'a> {
         if numbers.len() != bars * (bars + COPIES) {
             return Err(Refusal::ListNumbers(numbers.len()));
         }
+        // Not `ok_or`: what is found is the error.
         match first_no_mark(numbers) {
             Some(k) => Err(Refusal::ListNumbers(k)),
             None => Ok(List {
@@ -63,34 +64,25 @@ impl<'a> List<'a> {
         }
     }
 
-    // The row of bar k.
-    fn row(&self, k: u32) -> Row<'a>
-        requires { k < size (frame_of self.now.frame) }
-        ensures frame { result.frame ≡ self.now.frame }
-        ensures own { result.own.0 ≡ k }
-        ensures numbers { result.numbers.now ≡ row_of (width (frame_of self.now.frame)) self.now.numbers.now k }
-    {
-        let width = self.frame.bar_count() + COPIES;
-        let start = k as usize * width;
-        Row {
-            frame: self.frame,
-            own: BarId(k),
-            numbers: &self.numbers[start..start + width],
-        }
-    }
-
     // What the rows show of a set of bars, one after the other, up to the first that is wrong.
     pub(crate) fn shows_free(&self, set: &BarSet<'_>) -> Result<(), Overfull>
         ensures { ListSays result (frame_of self.now.frame) (set_of set.now) (list_in (frame_of self.now.frame) self.now.numbers.now) }
     {
+        let width = self.frame.bar_count() + COPIES;
+        // Left by its label at the first row that is wrong, and the loop below at the first joint, by a rule of the project.
         let mut verdict = Ok(());
-        'rows: for k in 0..self.frame.bar_count() as u32 {
-            let row = BarId(k);
-            if !set.contains(row) {
+        'rows: for (k, numbers) in self.numbers.chunks_exact(width).enumerate() {
+            let own = BarId(k as u32);
+            if !set.contains(own) {
                 continue 'rows;
             }
-            if let Some(joint) = self.row(k).overfull_joint(set) {
-                verdict = Err(Overfull { row, joint });
+            let row = Row {
+                frame: self.frame,
+                own,
+                numbers,
+            };
+            if let Some(joint) = row.overfull_joint(set) {
+                verdict = Err(Overfull { row: own, joint });
                 break 'rows;
             }
         }

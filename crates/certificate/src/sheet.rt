@@ -7,7 +7,6 @@ ghost use Rattle.frame.specs.Frame.{size, among};
 ghost use Rattle.frame.specs.Answers.{Answered};
 ghost use Rattle.frame.specs.Lent.{set_in};
 ghost use Rattle.frame.specs.Views.{frame_of, marks_of, set_of};
-ghost use Rattle.certificate.specs.Lists.{row_of};
 ghost use Rattle.certificate.specs.Sheets.{sheet_in, left_out};
 ghost use Rattle.certificate.specs.Rows.{groups_row};
 ghost use Rattle.certificate.specs.Verdicts.{SheetSays};
@@ -62,11 +61,13 @@ impl<'a> Sheet<'a> {
     pub(crate) fn bounds(&self, set: &BarSet<'_>) -> SheetVerdict
         ensures { SheetSays result (frame_of self.now.frame) (set_of set.now) (sheet_in (frame_of self.now.frame) self.now.groups.now (marks_of self.now.alone)) }
     {
-        let mut marks = [false; MOST_BARS];
-        let covered = &mut marks[..self.frame.bar_count()];
+        // As many as the largest frame has, since nothing is allocated.
+        let mut bars = [false; MOST_BARS];
+        let covered = &mut bars[..self.frame.bar_count()];
         let mut bound = self.alone.len() as u64;
-        for g in 0..self.group_count() {
-            let group = self.group(g);
+        let width = self.frame.joint_count() as usize;
+        for (g, marks) in self.groups.chunks_exact(width).enumerate() {
+            let group = read_group(marks);
             let joints = group.len();
             if joints < LEAST_GROUP {
                 return SheetVerdict::TooSmall(GroupId(g as u16));
@@ -78,24 +79,6 @@ impl<'a> Sheet<'a> {
             Some(bar) => SheetVerdict::Uncovered(bar),
             None => SheetVerdict::Bound(bound),
         }
-    }
-
-    // How many groups there are.
-    fn group_count(&self) -> usize
-        ensures { result ≡ length self.now.groups.now / (frame_of self.now.frame).joints }
-    {
-        self.groups.len() / self.frame.joint_count() as usize
-    }
-
-    // Group g.
-    fn group(&self, g: usize) -> JointSet
-        requires { g < length self.now.groups.now / (frame_of self.now.frame).joints }
-        ensures value { members result ≡ set_in (row_of (frame_of self.now.frame).joints self.now.groups.now g) }
-        ensures joints { count 512 (members result) ≡ count (frame_of self.now.frame).joints (members result) }
-    {
-        let joints = self.frame.joint_count() as usize;
-        let start = g * joints;
-        read_group(&self.groups[start..start + joints])
     }
 
     // Adds the bars among the joints of a group to those that are marked.

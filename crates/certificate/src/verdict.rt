@@ -27,7 +27,7 @@ impl fmt::Display for Overfull {
 
 impl Error for Overfull {}
 
-// What a sheet shows.
+// What a sheet shows. An enum, by a rule of the project: its cases hold a bound, a group or a bar.
 #[derive(Clone, Copy, PartialEq, Eq, Debug)]
 pub enum SheetVerdict {
     // The sheet keeps its rules: a free part of the set has at most so many bars.
@@ -53,11 +53,9 @@ impl fmt::Display for SheetVerdict {
     }
 }
 
-// What a list and a sheet show together of a part of a set.
+// Why a list and a sheet do not show that a part of a set of bars is a largest free part of it.
 #[derive(Clone, Copy, PartialEq, Eq, Debug)]
-pub enum LargestVerdict {
-    // It is a largest free part of the set, and has so many bars.
-    Largest(u64),
+pub enum NotLargest {
     // The first bar of the part that is not in the set.
     Outside(BarId),
     // The part lies in the set; this is what is wrong with the list.

@@ -1,7 +1,7 @@
 // Checks lists and sheets, and prints what they show. They are not read from files yet, so it checks some that are built in.
 #![tactic(auto)]
 
-use certificate::{LargestVerdict, check_largest, check_list, check_sheet};
+use certificate::{check_largest, check_list, check_sheet};
 use std::alloc::{AllocError, Global};
 
 // A frame, a set of its bars, a part of that with a list for it, and a sheet for the set.
@@ -29,15 +29,14 @@ fn check_one(rt: HostRuntime, e: Example<'_>) -> anyhow::Result<()> {
         Ok(shown) => println!(rt; "sheet {shown}")?,
         Err(refusal) => println!(rt; "{refusal}")?,
     }
-    if let Ok(LargestVerdict::Largest(size)) = check_largest(
-        e.pins, e.bars, e.set, e.part, e.list, e.groups, e.alone,
-    ) {
+    if let Ok(Ok(size)) = check_largest(e.pins, e.bars, e.set, e.part, e.list, e.groups, e.alone) {
         println!(rt; "largest {size}")?;
     }
     Ok(())
 }
 
-// The numbers that digits mean, one each; blanks are for the reader.
+// The numbers that digits mean, one each; blanks are for the reader. The trials of certificates have the same line, and a crate below both for it
+// would be longer.
 fn digits(heap: Global, text: &str) -> Result<Vec<u8>, AllocError> {
     text.bytes()
         .filter_map(|byte| byte.checked_sub(b'0'))
@@ -146,9 +145,7 @@ fn push_row(list: &mut Vec<u8>, own: usize) -> Result<(), AllocError> {
 // A list that shows that the strip is free.
 fn strip_list(heap: Global) -> Result<Vec<u8>, AllocError> {
     let mut list = Vec::new(heap);
-    for own in 0..ALL_BARS {
-        push_row(&mut list, own)?;
-    }
+    (0..ALL_BARS).try_for_each(|own| push_row(&mut list, own))?;
     Ok(list)
 }
 

@@ -7,7 +7,7 @@ ghost use Rattle.frame.specs.Refusals.{length_row, no_mark, marks_row};
 
 use crate::refusal::{Lent, Refusal};
 
-// The mark of a bar that is in the set; that of any other is 0.
+// The mark of a bar that is in the set; that of any other is 0. It is a number, as marks are lent.
 pub const IN_SET: u8 = 1;
 
 // Row 5: marks or room of another length than they should have.
@@ -24,6 +24,7 @@ pub fn judge_length(lent: Lent, has: usize, wanted: usize) -> Result<(), Refusal
 pub fn judge_marks(marks: &[u8]) -> Result<(), Refusal>
     ensures { Judged result (marks_row marks.now) }
 {
+    // Not `ok_or`: what is found is the error.
     match first_no_mark(marks) {
         Some(k) => Err(Refusal::Mark(k)),
         None => Ok(()),
@@ -34,6 +35,7 @@ pub fn judge_marks(marks: &[u8]) -> Result<(), Refusal>
 pub fn first_no_mark(numbers: &[u8]) -> Option<usize>
     ensures { result ≡ first (length numbers.now) (no_mark numbers.now) }
 {
+    // A chain with `position` was tried: no proof file could cite what it finds.
     for (k, number) in numbers.iter().enumerate() {
         if *number > IN_SET {
             return Some(k);

@@ -2,6 +2,8 @@
 ghost use Rattle.frame.specs.Frame.{Allowed};
 ghost use Rattle.frame.specs.Lent.{frame_in};
 
+use sets::joint_set::CAPACITY;
+
 mod bar_sets;
 mod frames;
 
@@ -9,7 +11,7 @@ mod frames;
 pub const LEAST_JOINTS: u64 = 2;
 
 // The most joints that a frame has.
-pub const MOST_JOINTS: u64 = 512;
+pub const MOST_JOINTS: u64 = CAPACITY as u64;
 
 // The most bars that a frame has.
 pub const MOST_BARS: usize = 2048;

@@ -35,6 +35,7 @@ struct Tally {
     among: usize,
 }
 
+// What is lent stays numbers, one parameter each, as calls are made with lent numbers.
 fn tally_up(joints: u64, bars: &[u16], chosen: &[u8], group: &JointSet) -> Result<Tally, Refusal>
     ensures { Tallied result joints bars.now chosen.now (members group.now) }
 {

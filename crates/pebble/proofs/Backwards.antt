@@ -1,28 +1,23 @@
 -- The links backwards from joint to slot, the search along them, and the joints that it leaves.
-use Rattle.std.proofs.Common.{◌≡◌, ℕ, zero, suc, ◌+◌, ◌-◌, ◌*◌, ◌/◌, ◌<◌, ◌≤◌, min, true, false, cond, eqb, ltb, List, length, get_or, set, replicate, Some, None, Option, sym, refl, ap, ◌∙◌, subst, inl, inr, add-zero, add-suc, add-one, arith}
+use Rattle.std.proofs.Common.{◌≡◌, ℕ, zero, suc, ◌+◌, ◌/◌, ◌<◌, ◌≤◌, min, true, false, cond, eqb, ltb, List, map, length, get_or, set, replicate, Some, None, Option, sym, refl, ap, ◌∙◌, subst, inl, inr, add-one, arith}
 use mathlib.Core.Path.{fun_ext}
 use Rattle.std.proofs.lemmas.Bool.{cases_Bool, cases_eq, cases_lt, both_ways, eq-eqb, ne_eqb, eqb-true, cond-true, cond-false, ltb-false}
-use Rattle.std.proofs.lemmas.List.{get_or-set_same, get_or-set_other, get_or-replicate, length-set, length-replicate}
+use Rattle.std.proofs.lemmas.List.{get_or-set_same, get_or-set_other, get_or-replicate, get_or_past, length-set, length-replicate}
 use Rattle.std.proofs.lemmas.Bool.Decides.{nat_tests}
+use Rattle.std.proofs.lemmas.List.FromFn.{get_or-map-range_with_len, length-map-range_with_len}
+use Rattle.std.specs.List.{range_with_len}
 use Rattle.sets.specs.Sets.{Set, Within, below, less, count}
 use Rattle.sets.proofs.Counts.{count_le, count_less}
 use Rattle.pebble.specs.declared.item.Item.{Item}
 use Rattle.pebble.specs.Slots.{Slots, slot, Lies, AtEnds, Apart, Closed, other, room}
 use Rattle.pebble.specs.Groups.{Shut, Unreaching}
 use Rattle.pebble.specs.Links.{outlets, goes, leads, last, Linked, Searchable, Dropped}
-use Rattle.pebble.proofs.Tables.{lies_inside}
 use Rattle.pebble.proofs.Searches.{other_seen, other_in}
 
 -- one number more to look at: the last is that one, or the last so far
 last_more : (n : ℕ) (s : Set) → last (n + 1) s ≡ cond (s n) (Some n) (last n s)
 unfolding last
 last_more n s = rw (add-one n) refl
-
--- a set with no number from n on
-last_longer : (n m : ℕ) (s : Set) → ((i : ℕ) → n ≤ i → s i ≡ false) → last (n + m) s ≡ last n s
-unfolding last
-last_longer n zero s h = rw (add-zero n) refl
-last_longer n (suc m) s h = rw (add-suc n m) (rw (h (n + m) (omega arith)) (last_longer n m s h))
 
 -- one past a number, and 0 where there is none
 abbrev pub past : Option ℕ → ℕ
@@ -32,7 +27,7 @@ past (Some s) = s + 1
 -- what the answer says: the number is below the bound and in the set
 last_is : (n : ℕ) (s : Set) (k : ℕ) → last n s ≡ Some k → (k < n) × (s k ≡ true)
 unfolding last
-last_is zero s k e = let z : ◌≡◌ {A = ℕ} 0 1 = cc in absurd (omega arith)
+last_is zero s k e = cc
 last_is (suc n) s k e =
     elim (cases_Bool (s n)) [
       | inl y ↦ let same : n ≡ k = cc (rw y at e) in (omega arith, ap s (sym same) ∙ y)
@@ -97,7 +92,7 @@ linking_empty slots p lasts befores then_lasts then_befores h empty e d =
         heads = λ w b. h.linked.heads w b ∙ sym (last_more p (leads slots w) ∙ cond-false _ _ _ (ap (λ o. goes o (p / 2) w) empty));
         tails = λ t x b lies. elim (cases_lt t p) [
           | inl l ↦ h.linked.tails t x l lies
-          | inr g ↦ let at : t ≡ p = omega arith in let z : ◌≡◌ {A = ℕ} 0 1 = cc (lies, empty, ap (slot slots) at) in absurd (omega arith)
+          | inr g ↦ let at : t ≡ p = omega arith in cc (lies, empty, ap (slot slots) at)
         ];
       };
     }
@@ -140,27 +135,20 @@ other_inside : (slots : Slots) (n s : ℕ) (x : Item) (j : ℕ) → Apart n slot
 other_inside slots n s x j apart lies = let a = apart s x lies in grind (arith, nat_tests)
 
 -- and so one of the table
-pub other_small : (slots : Slots) (n s : ℕ) (x : Item) (j k : ℕ) → n ≤ 512 → Apart n slots → Lies slots s x → k ≡ other x j → k < 512
-other_small slots n s x j k few apart lies e = omega (arith, other_inside slots n s x j apart lies)
+pub other_small : (slots : Slots) (s : ℕ) (x : Item) (j k : ℕ) → Apart 512 slots → Lies slots s x → k ≡ other x j → k < 512
+other_small slots s x j k apart lies e = omega (arith, other_inside slots 512 s x j apart lies)
 
--- where the slots of all joints of a board are linked, all slots are: the others are empty
-pub linked_all :
-    (slots : Slots) (n : ℕ) (lasts befores : List (Option ℕ)) (j : ℕ) → n ≤ 512 → AtEnds slots → Apart n slots → Linked slots (2 * n) lasts befores → j < 512 →
-    Searchable slots lasts befores j
-linked_all slots n lasts befores j few ends apart h small = record {
-  inside = λ t x lies. omega (arith, inside t x lies);
-  linked = record { heads = λ w b. h.heads w b ∙ sym (longer w); tails = λ t x b lies. h.tails t x (inside t x lies) lies };
-  joint = small;
-}
+-- what a search may count on: every slot is linked, the joint is one of the table, and all items lie in slots of the table
+pub record Searching (slots : Slots) (lasts befores : List (Option ℕ)) (j : ℕ) : Type 0 where
+  pub inside : (t : ℕ) (x : Item) → Lies slots t x → t < 1024
+  pub linked : Linked slots 1024 lasts befores
+  pub joint : j < 512
+
+pub searching : (slots : Slots) (lasts befores : List (Option ℕ)) (j : ℕ) → length slots ≡ 1024 → Searchable slots lasts befores j → Searching slots lasts befores j
+searching slots lasts befores j whole h = record { inside = inside; linked = h.linked; joint = h.joint }
   where
-    inside : (t : ℕ) (x : Item) → Lies slots t x → t < 2 * n
-    inside t x lies = omega (arith, lies_inside n slots t x ends apart lies)
-
-    longer : (w : ℕ) → last 1024 (leads slots w) ≡ last (2 * n) (leads slots w)
-    longer w =
-        let all : 1024 ≡ 2 * n + (1024 - 2 * n) = omega arith in
-        ap (λ i. last i (leads slots w)) all
-        ∙ last_longer (2 * n) (1024 - 2 * n) (leads slots w) (λ i g. elim (cases_Bool (leads slots w i)) [ inl y ↦ absurd (omega (arith, inside i _ (leads_item slots w i y).1)) | inr o ↦ o ])
+    inside : (t : ℕ) (x : Item) → Lies slots t x → t < 1024
+    inside t x lies = elim (cases_lt t 1024) [ inl l ↦ l | inr g ↦ cc (lies, get_or_past slots t None (omega arith)) ]
 
 -- what the search knows at the start of a turn: the slot that comes next leads to joint j, and the slots past it have been looked at
 pub record Sofar (slots : Slots) (rest : Set) (j : ℕ) (next : Option ℕ) (left : Set) : Type 0 where
@@ -195,16 +183,16 @@ less_same : (s t : Set) (f : ℕ) → s f ≡ false → t ≡ less s f → t ≡
 less_same s t f out e = e ∙ fun_ext (λ i. elim (cases_eq i f) [ inl at ↦ let o : s i ≡ false = ap s at ∙ out in grind (arith, nat_tests) | inr d ↦ grind (arith, nat_tests) ])
 
 -- a search may start from any joint
-pub also_from : (slots : Slots) (lasts befores : List (Option ℕ)) (i j : ℕ) → Searchable slots lasts befores i → j < 512 → Searchable slots lasts befores j
+pub also_from : (slots : Slots) (lasts befores : List (Option ℕ)) (i j : ℕ) → Searching slots lasts befores i → j < 512 → Searching slots lasts befores j
 also_from slots lasts befores i j h small = record { inside = h.inside; linked = h.linked; joint = small }
 
 -- a slot that leads to a joint is one of the table
-pub led_inside : (slots : Slots) (lasts befores : List (Option ℕ)) (j t : ℕ) → Searchable slots lasts befores j → leads slots j t ≡ true → t < 1024
+pub led_inside : (slots : Slots) (lasts befores : List (Option ℕ)) (j t : ℕ) → Searching slots lasts befores j → leads slots j t ≡ true → t < 1024
 led_inside slots lasts befores j t h y = let r = leads_item slots j t y in h.inside t r.0 r.1
 
 -- no slot has been looked at
 sofar_none :
-    (slots : Slots) (rest : Set) (lasts befores : List (Option ℕ)) (j : ℕ) → Searchable slots lasts befores j → Sofar slots rest j (get_or lasts j None) rest
+    (slots : Slots) (rest : Set) (lasts befores : List (Option ℕ)) (j : ℕ) → Searching slots lasts befores j → Sofar slots rest j (get_or lasts j None) rest
 sofar_none slots rest lasts befores j h = record {
   link = λ s e. (last_is 1024 (leads slots j) s (sym first ∙ e)).1;
   dropped = record {
@@ -223,7 +211,7 @@ sofar_none slots rest lasts befores j h = record {
 
 -- the same of each joint whose last slot is the one that the search begins with
 pub sofar_first :
-    (slots : Slots) (rest : Set) (lasts befores : List (Option ℕ)) (i : ℕ) → Searchable slots lasts befores i →
+    (slots : Slots) (rest : Set) (lasts befores : List (Option ℕ)) (i : ℕ) → Searching slots lasts befores i →
     SofarFrom slots lasts rest (get_or lasts i None) (get_or lasts i None) rest
 sofar_first slots rest lasts befores i h j small e =
     subst (λ o. Sofar slots rest j o rest) (sym e) (sofar_none slots rest lasts befores j (also_from slots lasts befores i j h small))
@@ -262,19 +250,19 @@ dropped_more slots rest j p s left then_left h leading call = record {
 
 -- what the link of a slot that leads to j says
 follow :
-    (slots : Slots) (lasts befores : List (Option ℕ)) (j s : ℕ) → Searchable slots lasts befores j → leads slots j s ≡ true → get_or befores s None ≡ last s (leads slots j)
+    (slots : Slots) (lasts befores : List (Option ℕ)) (j s : ℕ) → Searching slots lasts befores j → leads slots j s ≡ true → get_or befores s None ≡ last s (leads slots j)
 follow slots lasts befores j s h leading =
     let x = leads_item slots j s leading in
     h.linked.tails s x.0 (h.inside s x.0 x.1) x.1 ∙ ap (λ w. last s (leads slots w)) x.2
 
 -- the link of a slot is to an earlier one
 pub falls :
-    (slots : Slots) (lasts befores : List (Option ℕ)) (j s : ℕ) → Searchable slots lasts befores j → leads slots j s ≡ true → past (get_or befores s None) < s + 1
+    (slots : Slots) (lasts befores : List (Option ℕ)) (j s : ℕ) → Searching slots lasts befores j → leads slots j s ≡ true → past (get_or befores s None) < s + 1
 falls slots lasts befores j s h leading = rw (follow slots lasts befores j s h leading) (omega (arith, past_last s (leads slots j)))
 
 -- slot s is done, and the link is followed to the one before it
 sofar_next :
-    (slots : Slots) (rest : Set) (lasts befores : List (Option ℕ)) (j s : ℕ) (left : Set) → Searchable slots lasts befores j → leads slots j s ≡ true →
+    (slots : Slots) (rest : Set) (lasts befores : List (Option ℕ)) (j s : ℕ) (left : Set) → Searching slots lasts befores j → leads slots j s ≡ true →
     Dropped slots rest j (s + 1) left → left (s / 2) ≡ false → Sofar slots rest j (get_or befores s None) left
 sofar_next slots rest lasts befores j s left h leading d out = record {
   link = λ t e. (last_is s (leads slots j) t (sym (follow slots lasts befores j s h leading) ∙ e)).1;
@@ -291,7 +279,7 @@ sofar_next slots rest lasts befores j s left h leading d out = record {
 
 -- slot s comes next, and its joint was out already
 pub sofar_out :
-    (slots : Slots) (rest : Set) (lasts befores : List (Option ℕ)) (j s : ℕ) (next : Option ℕ) (left then_left : Set) → Searchable slots lasts befores j →
+    (slots : Slots) (rest : Set) (lasts befores : List (Option ℕ)) (j s : ℕ) (next : Option ℕ) (left then_left : Set) → Searching slots lasts befores j →
     Sofar slots rest j next left → next ≡ Some s → false ≡ left (s / 2) → then_left ≡ less left (s / 2) → Sofar slots rest j (get_or befores s None) then_left
 sofar_out slots rest lasts befores j s next left then_left h so e out gone =
     let d : Dropped slots rest j (s + 1) left = subst (λ o. Dropped slots rest j (past o) left) e so.dropped in
@@ -300,7 +288,7 @@ sofar_out slots rest lasts befores j s next left then_left h so e out gone =
 
 -- slot s comes next, and its joint was taken out, and what lies behind it
 pub sofar_taken :
-    (slots : Slots) (rest : Set) (lasts befores : List (Option ℕ)) (j s : ℕ) (next : Option ℕ) (left fewer then_left : Set) → Searchable slots lasts befores j →
+    (slots : Slots) (rest : Set) (lasts befores : List (Option ℕ)) (j s : ℕ) (next : Option ℕ) (left fewer then_left : Set) → Searching slots lasts befores j →
     Sofar slots rest j next left → next ≡ Some s → fewer ≡ less left (s / 2) → Dropped slots fewer (s / 2) 0 then_left → Sofar slots rest j (get_or befores s None) then_left
 sofar_taken slots rest lasts befores j s next left fewer then_left h so e gone behind =
     let d : Dropped slots rest j (s + 1) left = subst (λ o. Dropped slots rest j (past o) left) e so.dropped in
@@ -310,14 +298,14 @@ sofar_taken slots rest lasts befores j s next left fewer then_left h so e gone b
 
 -- slot s comes next, and its joint was still in and is taken out: the call for it may be made, with fewer joints in
 pub sofar_call :
-    (slots : Slots) (rest : Set) (lasts befores : List (Option ℕ)) (j s : ℕ) (next : Option ℕ) (left fewer : Set) → Searchable slots lasts befores j →
+    (slots : Slots) (rest : Set) (lasts befores : List (Option ℕ)) (j s : ℕ) (next : Option ℕ) (left fewer : Set) → Searching slots lasts befores j →
     Sofar slots rest j next left → next ≡ Some s → true ≡ left (s / 2) → fewer ≡ less left (s / 2) → (count 512 fewer < count 512 rest) × Searchable slots lasts befores (s / 2)
 sofar_call slots rest lasts befores j s next left fewer h so e was gone =
     let inside = led_inside slots lasts befores j s h (so.link s e) in
     let small : s / 2 < 512 = omega arith in
     let all : count 512 left ≤ count 512 rest = count_le 512 left rest (λ k _ y. so.dropped.shrank k y) in
     let one_less : count 512 fewer + 1 ≡ count 512 left = ap (λ f. count 512 f + 1) gone ∙ count_less 512 left (s / 2) small (sym was) in
-    (omega arith, also_from slots lasts befores j (s / 2) h small)
+    (omega arith, record { linked = h.linked; joint = small })
 
 -- what is left of the joints of a board, once the joints below j have been looked at: with a joint that is out each one is out whose items
 -- lead to it, no joint below j with an empty slot is in but u and v, and no joint of a group that is shut is out
@@ -391,7 +379,7 @@ kept_dropped n slots u v j rest fewer left h small outlet gone behind = record {
         elim (cases_Bool (js j)) [ inl y ↦ absurd (omega (arith, shut.full j small y empty.1 empty.2)) | inr o ↦ o ]
 
 -- all joints have been looked at
-pub kept_all : (n : ℕ) (slots : Slots) (u v j : ℕ) (rest : Set) → AtEnds slots → Apart n slots → n ≤ j → Kept n slots u v j rest → Unreaching n slots u v rest
+pub kept_all : (n : ℕ) (slots : Slots) (u v j : ℕ) (rest : Set) → AtEnds slots → Apart n slots → j ≡ n → Kept n slots u v j rest → Unreaching n slots u v rest
 kept_all n slots u v j rest ends apart all h = record {
   shut = record {
     closed = λ s x lies y. other_seen slots s x (s / 2) rest ends lies refl y (there s x lies y);
@@ -407,3 +395,10 @@ kept_all n slots u v j rest ends apart all h = record {
           | inl m ↦ m
           | inr o ↦ absurd (both_ways _ (h.behind (other x (s / 2)) s (other_inside slots n s x (s / 2) apart lies) o (leads_to slots (other x (s / 2)) s x lies ∙ eq-eqb _ _ refl)) y)
         ]
+
+-- in a loop over the joints below n the joint of a turn is as many as there were turns before
+pub turn_of : (n j x : ℕ) → (j < length (map (λ k. k) (range_with_len 0 n))) × (x ≡ get_or (map (λ k. k) (range_with_len 0 n)) j x) → (x < n) × (x ≡ j)
+turn_of n j x h =
+    let small : j < n = omega (arith, h.0, length-map-range_with_len (λ k. k) 0 n) in
+    let same : x ≡ j = h.1 ∙ get_or-map-range_with_len (λ k. k) 0 n j j x small (omega arith) in
+    (omega arith, same)

@@ -1,23 +1,19 @@
 -- The bars of a frame that lie on a board, after a move, after a bar was put, and after one was taken out.
-use Rattle.std.proofs.Common.{◌≡◌, ℕ, ◌<◌, true, false, not, eqb, length, set, Some, None, Option, sym, refl, ap, ◌∙◌, subst, inl, inr, arith}
+use Rattle.std.proofs.Common.{◌≡◌, ℕ, ◌<◌, true, not, eqb, length, set, Some, None, Option, sym, refl, ap, ◌∙◌, subst, inl, inr}
 use Rattle.std.proofs.lemmas.List.{get_or_past, get_or-set_same, get_or-set_other}
 use Rattle.std.proofs.lemmas.Bool.{cases_lt, and_parts, and_from, or_cases, or_left, or_right, eqb-true, eqb-false, eq-eqb, ne_eqb, not-true, not_from_false}
 use Rattle.sets.proofs.First.{some_first}
 use Rattle.pebble.specs.declared.item.Item.{Item}
-use Rattle.pebble.specs.Slots.{Slots, slot, Lies, name, nothing}
+use Rattle.pebble.specs.Slots.{Slots, slot, Lies, name}
 use Rattle.pebble.specs.Calls.{named, where_is}
 use Rattle.pebble.specs.Laws.{NothingOriented, MovesOrient, PutOrients, TakeOrients}
-use Rattle.pebble.proofs.Tables.{some_none, nothing_lies, lies_set}
+use Rattle.pebble.proofs.Tables.{nothing_lies, nothing_settled, lies_set}
 
 pub nothing_oriented : NothingOriented
 nothing_oriented f = record {
-  settled = record {
-    ends = λ s x lies. absurd (nothing_lies nothing s x refl lies);
-    apart = λ s x lies. absurd (nothing_lies nothing s x refl lies);
-    once = λ s t both. absurd (nothing_lies nothing s both.0 refl both.2);
-  };
-  items = λ s x lies. absurd (nothing_lies nothing s x refl lies);
-  all = λ k l e. let z : ◌≡◌ {A = ℕ} 0 1 = cc in absurd (omega arith);
+  settled = nothing_settled f.joints;
+  items = λ s x lies. absurd (nothing_lies s x lies);
+  all = λ k l e. cc;
 }
 
 pub moves_orient : MovesOrient
@@ -42,7 +38,7 @@ put_orients f xs before after x at o st inside is (s, put) = record {
       elim (or_cases (xs k) (eqb k (name x)) e) [
         | inl h ↦
             let a = o.all k l h in
-            let d : a.0 ≡ s → ⊥ = λ q. some_none (slot before a.0) a.1 a.2 (ap (slot before) q ∙ put.empty) in
+            let d : a.0 ≡ s → ⊥ = λ q. cc (a.2, ap (slot before) q ∙ put.empty) in
             (a.0, a.1, now a.0 a.1 (get_or-set_other before s a.0 (Some x) None d ∙ a.2), a.3)
         | inr h ↦ (s, x, now s x (get_or-set_same before s (Some x) None put.inside), sym (eqb-true _ _ h))
       ];
@@ -63,13 +59,13 @@ found_item slots k s e = (inside, found (slot slots s) refl)
 
     found : (o : Option Item) → slot slots s ≡ o → (x : Item) × Lies slots s x × (name x ≡ k)
     found (Some x) d = (x, d, eqb-true (name x) k (ap (named k) (sym d) ∙ here))
-    found None d = let z : false ≡ true = ap (named k) (sym d) ∙ here in let y : ◌≡◌ {A = ℕ} 0 1 = cc in absurd (omega arith)
+    found None d = cc (ap (named k) (sym d) ∙ here)
 
     inside : s < length slots
     inside =
         elim (cases_lt s (length slots)) [
           | inl l ↦ l
-          | inr g ↦ let x = found (slot slots s) refl in absurd (some_none (slot slots s) x.0 x.1 (get_or_past slots s None g))
+          | inr g ↦ let x = found (slot slots s) refl in cc (x.1, get_or_past slots s None g)
         ]
 
 pub take_orients : TakeOrients
@@ -77,7 +73,7 @@ take_orients f xs before after k s r o st is taken = record {
   settled = st;
   items = λ t y lies.
       elim (lies_set before s None t y at.0 (subst (λ l. Lies l t y) taken.1 lies)) [
-        | inl e ↦ absurd (some_none None y e.1 refl)
+        | inl e ↦ cc e.1
         | inr l ↦
             let i = o.items t y l.1 in
             let d : name y ≡ k → ⊥ = λ q. l.0 (o.settled.once t s (y, x.0, l.1, x.1, q ∙ sym x.2)) in

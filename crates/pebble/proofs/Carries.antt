@@ -1,16 +1,15 @@
 -- An item that is carried from one slot to another: the same items are placed, and the board stands as it should.
-use Rattle.std.proofs.Common.{◌≡◌, ℕ, ◌+◌, ◌*◌, ◌/◌, ◌<◌, true, false, ◌⊎◌, length, Some, None, Option, sym, ap, ◌∙◌, subst, inl, inr, arith}
+use Rattle.std.proofs.Common.{◌≡◌, ℕ, ◌+◌, ◌*◌, ◌/◌, ◌<◌, true, false, ◌⊎◌, Some, None, Option, sym, ap, ◌∙◌, subst, inl, inr, arith}
 use Rattle.std.proofs.lemmas.Bool.{cases_eq, both_ways, or_left}
+use Rattle.std.specs.List.{SwappedAt}
 use Rattle.sets.specs.Sets.{Set, also, Within}
 use Rattle.pebble.specs.declared.item.Item.{Item}
-use Rattle.pebble.specs.Slots.{Slots, slot, Lies, Placed, SameItems, is_end, other, room, vacant}
-use Rattle.pebble.specs.Moves.{Standing, Moved}
+use Rattle.pebble.specs.Slots.{Slots, slot, Lies, Placed, SameItems, Settled, is_end, other, room, vacant}
+use Rattle.pebble.specs.Moves.{Moved}
 use Rattle.pebble.proofs.Searches.{Turn, other_differs}
-use Rattle.pebble.proofs.Tables.{some_none}
 
 -- item x has been carried from slot p to slot f, which was empty; nothing else has changed
-pub record Carried (before : Slots) (p f : ℕ) (x : Item) (after : Slots) : Type 0 where
-  pub long : length after ≡ length before
+record Carried (before : Slots) (p f : ℕ) (x : Item) (after : Slots) : Type 0 where
   pub was : Lies before p x
   pub left : slot after p ≡ None
   pub free : slot before f ≡ None
@@ -25,7 +24,7 @@ came_from before p f x after c s y lies =
     elim (cases_eq s f) [
       | inl e ↦ inl (e, same (ap (slot after) (sym e) ∙ lies) c.lies)
       | inr d ↦ elim (cases_eq s p) [
-        | inl e ↦ absurd (some_none (slot after s) y lies (ap (slot after) e ∙ c.left))
+        | inl e ↦ cc (lies, ap (slot after) e ∙ c.left)
         | inr h ↦ inr (h, sym (c.rest s h d) ∙ lies)
       ]
     ]
@@ -34,7 +33,7 @@ came_from before p f x after c s y lies =
     same p q = cc
 
 -- exactly the same items are placed
-pub carried_same : (before : Slots) (p f : ℕ) (x : Item) (after : Slots) → Carried before p f x after → SameItems before after
+carried_same : (before : Slots) (p f : ℕ) (x : Item) (after : Slots) → Carried before p f x after → SameItems before after
 carried_same before p f x after c y = (there, back)
   where
     there : Placed before y → Placed after y
@@ -42,7 +41,7 @@ carried_same before p f x after c y = (there, back)
         elim (cases_eq h.0 p) [
           | inl e ↦ let same : y ≡ x = cc (ap (slot before) e, h.1, c.was) in (f, c.lies ∙ ap Some (sym same))
           | inr d ↦ elim (cases_eq h.0 f) [
-            | inl e ↦ absurd (some_none (slot before h.0) y h.1 (ap (slot before) e ∙ c.free))
+            | inl e ↦ cc (h.1, ap (slot before) e ∙ c.free)
             | inr g ↦ (h.0, c.rest h.0 d g ∙ h.1)
           ]
         ]
@@ -50,35 +49,32 @@ carried_same before p f x after c y = (there, back)
     back : Placed after y → Placed before y
     back h = elim (came_from before p f x after c h.0 y h.1) [ inl e ↦ (p, c.was ∙ ap Some (sym e.1)) | inr l ↦ (h.0, l.1) ]
 
--- an item that is carried to one of its ends leaves the board standing
-pub carried_stands : (before : Slots) (p f : ℕ) (x : Item) (after : Slots) → Carried before p f x after → is_end x (f / 2) ≡ true → Standing before → Standing after
-carried_stands before p f x after c end st = record {
-  whole = c.long ∙ st.whole;
-  settled = record {
-    ends = λ s y lies. elim (from s y lies) [ inl e ↦ ap (λ t. is_end y (t / 2)) e.0 ∙ ap (λ z. is_end z (f / 2)) e.1 ∙ end | inr l ↦ st.settled.ends s y l.1 ];
-    apart = λ s y lies. let h = (carried_same before p f x after c y).1 (s, lies) in st.settled.apart h.0 y h.1;
-    once = λ s t both.
-        let y = both.0 in
-        let z = both.1 in
-        let same = both.4 in
-        elim (from s y both.2) [
-          | inl e ↦ elim (from t z both.3) [
-            | inl d ↦ e.0 ∙ sym d.0
-            | inr l ↦ absurd (l.0 (st.settled.once t p (z, x, l.1, c.was, sym same ∙ ap (λ i. i.bar.0) e.1)))
-          ]
-          | inr k ↦ elim (from t z both.3) [
-            | inl d ↦ absurd (k.0 (st.settled.once s p (y, x, k.1, c.was, same ∙ ap (λ i. i.bar.0) d.1)))
-            | inr l ↦ st.settled.once s t (y, z, k.1, l.1, same)
-          ]
-        ];
-  };
+-- an item that is carried to one of its ends leaves all items lying as they should
+carried_settled : (n : ℕ) (before : Slots) (p f : ℕ) (x : Item) (after : Slots) → Carried before p f x after → is_end x (f / 2) ≡ true → Settled n before → Settled n after
+carried_settled n before p f x after c end st = record {
+  ends = λ s y lies. elim (from s y lies) [ inl e ↦ ap (λ t. is_end y (t / 2)) e.0 ∙ ap (λ z. is_end z (f / 2)) e.1 ∙ end | inr l ↦ st.ends s y l.1 ];
+  apart = λ s y lies. let h = (carried_same before p f x after c y).1 (s, lies) in st.apart h.0 y h.1;
+  once = λ s t both.
+      let y = both.0 in
+      let z = both.1 in
+      let same = both.4 in
+      elim (from s y both.2) [
+        | inl e ↦ elim (from t z both.3) [
+          | inl d ↦ e.0 ∙ sym d.0
+          | inr l ↦ absurd (l.0 (st.once t p (z, x, l.1, c.was, sym same ∙ ap (λ i. i.bar.0) e.1)))
+        ]
+        | inr k ↦ elim (from t z both.3) [
+          | inl d ↦ absurd (k.0 (st.once s p (y, x, k.1, c.was, same ∙ ap (λ i. i.bar.0) d.1)))
+          | inr l ↦ st.once s t (y, z, k.1, l.1, same)
+        ]
+      ];
 }
   where
     from : (s : ℕ) (y : Item) → Lies after s y → ((s ≡ f) × (y ≡ x)) ⊎ ((s ≡ p → ⊥) × Lies before s y)
     from = came_from before p f x after c
 
 -- one slot of joint j has been emptied, and the other is as it was
-pub room_more :
+room_more :
     (before after : Slots) (j p : ℕ) (x : Item) → p / 2 ≡ j → Lies before p x → slot after p ≡ None →
     ((t : ℕ) → t / 2 ≡ j → (t ≡ p → ⊥) → slot after t ≡ slot before t) → room after j ≡ room before j + 1
 room_more before after j p x at was left rest =
@@ -91,27 +87,25 @@ room_more before after j p x at was left rest =
 
 -- room was made at the other end of the item in slot p of joint j, and the item was carried there: so room was made at j
 pub passed_on :
-    (slots between after : Slots) (seen : Set) (j p f : ℕ) (now_seen : Set) (x : Item) (k : ℕ) (grown : Set) → Turn slots seen j p now_seen x k →
-    grown ≡ also now_seen k → now_seen k ≡ false → Moved slots grown k f between →
-    length after ≡ length between → slot after p ≡ slot between f → slot after f ≡ slot between p →
-    ((t : ℕ) → (t ≡ p → ⊥) → (t ≡ f → ⊥) → slot after t ≡ slot between t) →
-    Moved slots seen j p after × (room after j ≡ room slots j + 1)
-passed_on slots between after seen j p f now_seen x k grown turn e new made long out into rest = (
+    (slots between after : Slots) (seen : Set) (j p f : ℕ) (now_seen : Set) (x : Item) (k : ℕ) (grown : Set) → Turn slots seen j p now_seen x k grown →
+    now_seen k ≡ false → Moved slots grown k f between → SwappedAt between after p f →
+    Moved slots seen j p after × (room after j ≡ room slots j + 1) × (Settled 512 between → Settled 512 after)
+passed_on slots between after seen j p f now_seen x k grown turn new made swapped = (
   record {
     here = turn.here;
     empty = carried.left;
     same = λ y. (λ h. (carried_same between p f x after carried y).0 ((moved.same y).0 h), λ h. (moved.same y).1 ((carried_same between p f x after carried y).1 h));
-    standing = carried_stands between p f x after carried (ap (is_end x) (moved.here ∙ turn.leads) ∙ facts.2) moved.standing;
     kept = kept;
   },
-  room_more slots after j p x turn.here turn.lies carried.left (λ t e d. kept t (ap seen e ∙ turn.ready.marked) d),
+  room_more slots after j p x turn.here turn.lies carried.left (λ t e d. kept t (ap seen e ∙ turn.marked) d),
+  carried_settled 512 between p f x after carried (ap (is_end x) (moved.here ∙ turn.leads) ∙ facts.2),
 )
   where
     facts : (other x j < 512) × (other x j ≡ j → ⊥) × (is_end x (other x j) ≡ true) × (is_end x j ≡ true)
-    facts = other_differs slots 512 p x j turn.ready.standing.settled.ends turn.ready.standing.settled.apart turn.lies turn.here
+    facts = other_differs slots 512 p x j turn.settled.ends turn.settled.apart turn.lies turn.here
 
     moved : Moved slots (also now_seen k) k f between
-    moved = subst (λ s. Moved slots s k f between) e made
+    moved = subst (λ s. Moved slots s k f between) turn.put made
 
     grew : Within seen now_seen
     grew = turn.sofar.spread.grew
@@ -120,12 +114,12 @@ passed_on slots between after seen j p f now_seen x k grown turn e new made long
     apart d = facts.1 (sym turn.leads ∙ sym moved.here ∙ ap (λ s. s / 2) (sym d) ∙ turn.here)
 
     held : slot between p ≡ slot slots p
-    held = moved.kept p (or_left (now_seen (p / 2)) _ (grew (p / 2) (ap seen turn.here ∙ turn.ready.marked))) apart
+    held = moved.kept p (or_left (now_seen (p / 2)) _ (grew (p / 2) (ap seen turn.here ∙ turn.marked))) apart
 
     carried : Carried between p f x after
-    carried = record { long = long; was = held ∙ turn.lies; left = out ∙ moved.empty; free = moved.empty; lies = into ∙ held ∙ turn.lies; rest = rest }
+    carried = record { was = held ∙ turn.lies; left = swapped.0 None ∙ moved.empty; free = moved.empty; lies = swapped.1 None ∙ held ∙ turn.lies; rest = λ t d g. swapped.2 t None d g }
 
     kept : (t : ℕ) → seen (t / 2) ≡ true → (t ≡ p → ⊥) → slot after t ≡ slot slots t
     kept t h d =
         let away : t ≡ f → ⊥ = λ q. both_ways _ new (ap now_seen (sym moved.here ∙ ap (λ s. s / 2) (sym q)) ∙ grew (t / 2) h) in
-        rest t d away ∙ moved.kept t (or_left (now_seen (t / 2)) _ (grew (t / 2) h)) away
+        carried.rest t d away ∙ moved.kept t (or_left (now_seen (t / 2)) _ (grew (t / 2) h)) away

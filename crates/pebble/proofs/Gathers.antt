@@ -1,31 +1,27 @@
 -- Gathering at two joints: one slot more is emptied, or the joints that are reached from both are a group that no item leads out of.
-use Rattle.std.proofs.Common.{◌≡◌, ℕ, ◌+◌, ◌*◌, ◌/◌, ◌<◌, true, false, eqb, is_some, Some, None, Option, sym, refl, ap, ◌∙◌, subst, ap₂, inl, inr, arith, MatchOption}
+use Rattle.std.proofs.Common.{◌≡◌, ℕ, ◌+◌, ◌*◌, ◌/◌, ◌<◌, ◌≤◌, true, false, eqb, is_some, Some, None, Ok, Err, Option, Result, sym, refl, ap, ◌∙◌, subst, ap₂, inl, inr, arith}
 use Rattle.std.proofs.lemmas.Bool.{cases_Bool, or_cases, or_left, or_right, eqb-true, eq-eqb}
 use Rattle.sets.specs.Sets.{Set, none, also}
 use Rattle.pebble.specs.declared.item.Item.{Item}
-use Rattle.pebble.specs.declared.outcome.Gathering.{Gathering}
-use Rattle.pebble.specs.declared.outcome.Gathering.TheVariants.{Enough, Short}
-use Rattle.pebble.specs.declared.outcome.Room.{Room}
-use Rattle.pebble.specs.declared.outcome.Room.TheVariants.{Made, Stuck as StuckAt}
-use Rattle.pebble.specs.Slots.{Slots, slot, Placed, SameItems, Closed, room, vacant}
+use Rattle.pebble.specs.declared.outcome.Short.{Short}
+use Rattle.pebble.specs.declared.outcome.Stuck.{Stuck as StuckAt}
+use Rattle.pebble.specs.Slots.{Slots, slot, Apart, Placed, SameItems, Closed, room, vacant}
 use Rattle.pebble.specs.Groups.{Reached}
-use Rattle.pebble.specs.Moves.{Standing, Moved, Stuck, MovedOn, Roomless, RoomSays, Emptied, FellShort, GatherSays}
-use Rattle.pebble.proofs.Tables.{Facts}
+use Rattle.pebble.specs.Moves.{Moved, Stuck, MovedOn, Roomless, RoomSays, Emptied, FellShort, GatherSays, TwoJoints}
 use Rattle.pebble.proofs.Searches.{spread_none, spread_more}
 
--- an answer that is none
-pub said_none : {X : Type 0} (o : Option X) (P : Type 0) (Q : X → Type 0) → is_some o ≡ false → MatchOption o P Q → P
-said_none None P Q e h = h
-said_none (Some x) P Q e h = let z : ◌≡◌ {A = ℕ} 0 1 = cc in absurd (omega arith)
-
 -- what a call answered, by whether it answered a slot
-pub moved_on_some : (before : Slots) (seen : Set) (j : ℕ) (r : Option ℕ) (after : Slots) (now_seen : Set) → is_some r ≡ true → MovedOn before seen j r after now_seen → (s : ℕ) × Moved before seen j s after × (room after j ≡ room before j + 1)
+moved_on_some : (before : Slots) (seen : Set) (j : ℕ) (r : Option ℕ) (after : Slots) (now_seen : Set) → is_some r ≡ true → MovedOn before seen j r after now_seen → (s : ℕ) × Moved before seen j s after × (room after j ≡ room before j + 1)
 moved_on_some before seen j (Some s) after now_seen e h = (s, h.0, h.1)
-moved_on_some before seen j None after now_seen e h = let z : ◌≡◌ {A = ℕ} 0 1 = cc in absurd (omega arith)
+moved_on_some before seen j None after now_seen e h = cc
 
-pub moved_on_none : (before : Slots) (seen : Set) (j : ℕ) (r : Option ℕ) (after : Slots) (now_seen : Set) → is_some r ≡ false → MovedOn before seen j r after now_seen → Stuck before seen j after now_seen
-moved_on_none before seen j (Some s) after now_seen e h = let z : ◌≡◌ {A = ℕ} 0 1 = cc in absurd (omega arith)
+moved_on_none : (before : Slots) (seen : Set) (j : ℕ) (r : Option ℕ) (after : Slots) (now_seen : Set) → is_some r ≡ false → MovedOn before seen j r after now_seen → Stuck before seen j after now_seen
+moved_on_none before seen j (Some s) after now_seen e h = cc
 moved_on_none before seen j None after now_seen e h = h
+
+-- the two joints were put into the empty set
+pub two_seen : (e a b : Set) (u v : ℕ) → TwoJoints u v → e ≡ none → (u < 512 → a ≡ also e u) → (v < 512 → b ≡ also a v) → b ≡ also (also none u) v
+two_seen e a b u v t empty first second = second t.v_inside ∙ ap (λ s. also s v) (first t.u_inside ∙ ap (λ s. also s u) empty)
 
 -- joint j is full, was not to be kept, and none of its items can be moved on
 pub roomless : (slots after : Slots) (kept : Set) (j : ℕ) (seen : Set) → kept j ≡ false → room slots j ≡ 0 → Stuck slots (also kept j) j after seen → Roomless slots kept j after seen
@@ -37,18 +33,33 @@ roomless slots after kept j seen new full stuck = record {
 }
 
 -- a slot of u was emptied, and v was to be kept
-pub emptied : (slots after : Slots) (seen : Set) (u v s : ℕ) → (u ≡ v → ⊥) → seen v ≡ true → Moved slots seen u s after → room after u ≡ room slots u + 1 → Emptied slots u v after
+emptied : (slots after : Slots) (seen : Set) (u v s : ℕ) → (u ≡ v → ⊥) → seen v ≡ true → Moved slots seen u s after → room after u ≡ room slots u + 1 → Emptied slots u v after
 emptied slots after seen u v s differ has moved more = record {
   same = moved.same;
-  standing = moved.standing;
   more = omega (arith, ap₂ (λ (a b : Option Item). vacant a + vacant b) (kept (2 * v) (omega arith)) (kept (2 * v + 1) (omega arith)));
 }
   where
     kept : (t : ℕ) → t / 2 ≡ v → slot after t ≡ slot slots t
     kept t at = moved.kept t (ap seen at ∙ has) (λ e. differ (sym moved.here ∙ ap (λ r. r / 2) (sym e) ∙ at))
 
-pub emptied_swap : (slots after : Slots) (u v : ℕ) → Emptied slots v u after → Emptied slots u v after
-emptied_swap slots after u v e = record { same = e.same; standing = e.standing; more = omega (arith, e.more) }
+-- an item of u was moved on
+pub emptied_first :
+    (slots after : Slots) (seen now_seen : Set) (u v : ℕ) (r : Option ℕ) → TwoJoints u v → seen ≡ also (also none u) v → is_some r ≡ true → MovedOn slots seen u r after now_seen →
+    Emptied slots u v after
+emptied_first slots after seen now_seen u v r t two e h =
+    let m = moved_on_some slots seen u r after now_seen e h in
+    emptied slots after seen u v m.0 t.differ (rw two (or_right _ (eqb v v) (eq-eqb v v refl))) m.1 m.2
+
+-- none of u could be, and then one of v was
+pub emptied_second :
+    (slots between after : Slots) (seen then_seen now_seen : Set) (u v : ℕ) (r q : Option ℕ) → TwoJoints u v → seen ≡ also (also none u) v →
+    is_some r ≡ false → MovedOn slots seen u r between then_seen → is_some q ≡ true → MovedOn between then_seen v q after now_seen → Emptied slots u v after
+emptied_second slots between after seen then_seen now_seen u v r q t two e h d g =
+    let first = moved_on_none slots seen u r between then_seen e h in
+    let m = moved_on_some between then_seen v q after now_seen d g in
+    let marked : then_seen u ≡ true = first.spread.grew u (rw two (or_left (eqb u u) (eqb u v) (eq-eqb u u refl))) in
+    let other_way = emptied between after then_seen v u m.0 (λ e. t.differ (sym e)) marked m.1 m.2 in
+    subst (λ l. Emptied l u v after) first.still (record { same = other_way.same; more = omega (arith, other_way.more) })
 
 -- no item of u, and then none of v, can be moved on
 pub reached :
@@ -91,36 +102,21 @@ reached slots between after u v seen now_seen first then_second = (
     full : (j : ℕ) → j < 512 → now_seen j ≡ true → (j ≡ u → ⊥) → (j ≡ v → ⊥) → room slots j ≡ 0
     full j _ y du dv = ways j _ (second.spread.full j y) (first.spread.full j) (λ e. absurd (du e)) (λ e. absurd (dv e))
 
--- what a board states of its table is asked for before a move, and holds after it
-pub standing_of : (n : ℕ) (slots : Slots) → Facts n slots → Standing slots
-standing_of n slots f = record {
-  whole = f.whole;
-  settled = record { ends = f.ends; apart = λ s x lies. let a = f.apart s x lies in (omega (arith, a.0), omega (arith, a.1), a.2); once = f.once };
-}
+-- where exactly the same items are placed, their ends are joints of the board as before
+pub apart_moved : (n : ℕ) (before after : Slots) → SameItems before after → Apart n before → Apart n after
+apart_moved n before after same apart s x lies = let h = (same x).1 (s, lies) in apart h.0 x h.1
 
-pub facts_moved : (n : ℕ) (before after : Slots) → SameItems before after → Standing after → Facts n before → Facts n after
-facts_moved n before after same st f = record {
-  few = f.few;
-  whole = st.whole;
-  ends = st.settled.ends;
-  apart = λ s x lies. let h = (same x).1 (s, lies) in f.apart h.0 x h.1;
-  once = st.settled.once;
-}
-
--- nothing moved, so the board stands as it did and the same items are placed
-pub still_stands : (before after : Slots) → after ≡ before → Standing before → Standing after
-still_stands before after e st = subst Standing (sym e) st
-
-pub same_still : (before after : Slots) → after ≡ before → SameItems before after
+-- nothing moved, so the same items are placed
+same_still : (before after : Slots) → after ≡ before → SameItems before after
 same_still before after e x = (λ h. subst (λ l. Placed l x) (sym e) h, λ h. subst (λ l. Placed l x) e h)
 
-pub room_same : (before : Slots) (kept : Set) (j : ℕ) (r : Room) (after : Slots) → RoomSays before kept j r after → SameItems before after
-room_same before kept j Made after h = h.same
-room_same before kept j (StuckAt seen) after h = same_still before after h.still
+pub room_same : (before : Slots) (kept : Set) (j : ℕ) (r : Result (Unit {0}) StuckAt) (after : Slots) → RoomSays before kept j r after → SameItems before after
+room_same before kept j (Ok _) after h = h.same
+room_same before kept j (Err stuck) after h = same_still before after h.still
 
-pub gather_same : (n : ℕ) (before : Slots) (u v wanted : ℕ) (r : Gathering) (after : Slots) → GatherSays n before u v wanted r after → SameItems before after
-gather_same n before u v wanted Enough after h = h.same
-gather_same n before u v wanted (Short empty group) after h = h.same
+pub gather_same : (n : ℕ) (before : Slots) (u v wanted : ℕ) (r : Result (Unit {0}) Short) (after : Slots) → GatherSays n before u v wanted r after → SameItems before after
+gather_same n before u v wanted (Ok _) after h = h.same
+gather_same n before u v wanted (Err short) after h = h.same
 
 -- the same items after one move and another
 pub same_then : (before between after : Slots) → SameItems before between → SameItems between after → SameItems before after
@@ -132,3 +128,21 @@ pub fell_short :
     Reached 512 between u v group → FellShort 512 before u v wanted empty group after
 fell_short before between after u v wanted empty group same still short counted reached =
     rw still (record { same = same; short = short; counted = counted; group_is = reached })
+
+-- what is said of gathering on a table of 512 joints holds on a board of fewer
+pub gather_within : (n : ℕ) (before : Slots) (u v wanted : ℕ) (r : Result (Unit {0}) Short) (after : Slots) → n ≤ 512 → GatherSays 512 before u v wanted r after → GatherSays n before u v wanted r after
+gather_within n before u v wanted (Ok _) after few says = says
+gather_within n before u v wanted (Err short) after few says =
+    let group = says.group_is in
+    record {
+      same = says.same;
+      short = says.short;
+      counted = says.counted;
+      group_is =
+          record {
+            shut = record { closed = group.shut.closed; full = λ j l. group.shut.full j (omega arith) };
+            has_u = group.has_u;
+            has_v = group.has_v;
+            least = group.least;
+          };
+    }

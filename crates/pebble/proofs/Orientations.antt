@@ -54,7 +54,7 @@ in_slot f xs slots at o t s =
         (h.0, ap (slot slots) (sym (eqb-true (at k) s p.1)) ∙ h.1, h.2)
 
     nothing : slot slots s ≡ None → (k : ℕ) → k < size f → (xs k && eqb (at k) s) ≡ true → ⊥
-    nothing e k b y = let z : ◌≡◌ {A = ℕ} 0 1 = cc (held k b y).1 in omega arith
+    nothing e k b y = cc (held k b y).1
 
     just : (x : Item) → Lies slots s x → (k : ℕ) → k < size f → (xs k && eqb (at k) s) ≡ true → eqb k (name x) ≡ true
     just x e k b y =

@@ -1,13 +1,13 @@
 -- The search for room from joint to joint: what is known after some of a joint's slots have been looked at, and the step to the next.
-use Rattle.std.proofs.Common.{◌≡◌, ℕ, ◌+◌, ◌*◌, ◌/◌, ◌<◌, ◌≤◌, Bool, true, false, not, ◌&&◌, eqb, ltb, sym, refl, ap, ◌∙◌, subst, inl, inr, arith}
+use Rattle.std.proofs.Common.{◌≡◌, ℕ, zero, suc, [], ◌∷◌, add-zero, ◌+◌, ◌*◌, ◌/◌, ◌<◌, ◌≤◌, true, false, not, eqb, sym, refl, ap, ◌∙◌, subst, inl, inr, arith}
 use mathlib.Core.Path.{fun_ext}
 use Rattle.std.proofs.lemmas.Bool.{cases_Bool, cases_eq, cases_lt, both_ways, or_cases, or_left, or_right, eqb-true, eq-eqb, ne_eqb, and_right, not_from_true}
 use Rattle.std.proofs.lemmas.Bool.Decides.{nat_tests}
 use Rattle.sets.specs.Sets.{Set, also, less, Within, count}
 use Rattle.sets.proofs.Counts.{count_le, count_same, count_less}
 use Rattle.pebble.specs.declared.item.Item.{Item}
-use Rattle.pebble.specs.Slots.{Slots, slot, Lies, AtEnds, Apart, ClosedBut, is_end, other, one, two, room}
-use Rattle.pebble.specs.Moves.{Spread, Stuck, Ready}
+use Rattle.pebble.specs.Slots.{Slots, slot, Lies, AtEnds, Apart, Settled, ClosedBut, is_end, other, one, two, room}
+use Rattle.pebble.specs.Moves.{Spread, Stuck}
 
 -- how many joints of the table are not in a set: the number that falls from call to call
 abbrev pub unseen : Set → ℕ
@@ -83,9 +83,9 @@ sofar_none slots seen j = record { spread = spread_none slots seen j; from = λ 
 
 -- more is seen, and slot p is empty or its item has both ends seen: one slot more has been looked at
 pub sofar_passed :
-    (slots : Slots) (seen : Set) (j p : ℕ) (now_seen then_seen : Set) → Sofar slots seen j p now_seen → Spread slots seen j then_seen → Within now_seen then_seen →
-    ((x : Item) → Lies slots p x → (then_seen (one x) ≡ true) × (then_seen (two x) ≡ true)) → Sofar slots seen j (p + 1) then_seen
-sofar_passed slots seen j p now_seen then_seen h spread grew here = record {
+    (slots : Slots) (seen : Set) (j p q : ℕ) (now_seen then_seen : Set) → q ≡ p + 1 → Sofar slots seen j p now_seen → Spread slots seen j then_seen → Within now_seen then_seen →
+    ((x : Item) → Lies slots p x → (then_seen (one x) ≡ true) × (then_seen (two x) ≡ true)) → Sofar slots seen j q then_seen
+sofar_passed slots seen j p q now_seen then_seen next h spread grew here = record {
   spread = spread;
   from = λ s x lies at below.
       elim (cases_lt s p) [
@@ -99,7 +99,7 @@ pub sofar_all : (slots after : Slots) (seen : Set) (j p : ℕ) (now_seen : Set) 
 sofar_all slots after seen j p now_seen still h all = record { still = still; spread = h.spread; from = λ s x lies at. h.from s x lies at (omega arith) }
 
 -- one joint more is marked: fewer are unseen
-pub unseen_falls : (seen now_seen : Set) (k : ℕ) → Within seen now_seen → k < 512 → now_seen k ≡ false → unseen (also now_seen k) < unseen seen
+unseen_falls : (seen now_seen : Set) (k : ℕ) → Within seen now_seen → k < 512 → now_seen k ≡ false → unseen (also now_seen k) < unseen seen
 unseen_falls seen now_seen k grew small new =
     omega (
       arith,
@@ -116,61 +116,67 @@ other_seen slots s x j seen ends lies at = ends_seen x j seen (ap (is_end x) (sy
 pub other_in : (x : Item) (j : ℕ) (js : Set) → (js (one x) ≡ true) × (js (two x) ≡ true) → js (other x j) ≡ true
 other_in x j js q = elim (cases_Bool (eqb (one x) j)) [ inl y ↦ rw y q.1 | inr o ↦ rw o q.0 ]
 
--- slot p of joint j, which is looked at now, holds item x, whose other end is k
-pub record Turn (slots : Slots) (seen : Set) (j p : ℕ) (now_seen : Set) (x : Item) (k : ℕ) : Type 0 where
-  pub ready : Ready slots seen j
+-- slot p of joint j, which is looked at now, holds item x, whose other end is k, and k was put into the set of seen joints
+pub record Turn (slots : Slots) (seen : Set) (j p : ℕ) (now_seen : Set) (x : Item) (k : ℕ) (grown : Set) : Type 0 where
+  pub settled : Settled 512 slots
+  pub marked : seen j ≡ true
   pub sofar : Sofar slots seen j p now_seen
   pub here : p / 2 ≡ j
   pub lies : Lies slots p x
   pub leads : k ≡ other x j
+  pub inside : k < 512
+  pub put : grown ≡ also now_seen k
+
+-- what the items of joint j say of its slots
+pub held_at : (slots items : Slots) (j i : ℕ) → items ≡ slot slots (2 * j) ∷ (slot slots (2 * j + 1) ∷ []) → i < 2 → slot items i ≡ slot slots (2 * j + i)
+held_at slots items j zero e l = rw (e, add-zero) refl
+held_at slots items j (suc zero) e l = rw e refl
+held_at slots items j (suc (suc i)) e l = absurd (omega arith)
 
 pub turn_at :
-    (slots here : Slots) (seen : Set) (j p : ℕ) (now_seen : Set) (x : Item) (k : ℕ) → Ready slots seen j → (here ≡ slots) × Sofar slots seen j p now_seen →
-    p / 2 ≡ j → Lies here p x → k ≡ other x j → Turn slots seen j p now_seen x k
-turn_at slots here seen j p now_seen x k ready inv at lies leads = record { ready = ready; sofar = inv.1; here = at; lies = ap (λ (l : Slots). slot l p) (sym inv.0) ∙ lies; leads = leads }
+    (slots items here : Slots) (seen : Set) (j i : ℕ) (now_seen : Set) (x : Item) (k : ℕ) (grown : Set) → Settled 512 slots → seen j ≡ true →
+    (here ≡ slots) × Sofar slots seen j (2 * j + i) now_seen → items ≡ slot slots (2 * j) ∷ (slot slots (2 * j + 1) ∷ []) → i < 2 → Lies items i x → k ≡ other x j →
+    (k < 512 → grown ≡ also now_seen k) → Turn slots seen j (2 * j + i) now_seen x k grown
+turn_at slots items here seen j i now_seen x k grown settled marked inv held small there leads put =
+    record { settled = settled; marked = marked; sofar = inv.1; here = omega arith; lies = lies; leads = leads; inside = inside; put = put inside }
+  where
+    lies : Lies slots (2 * j + i) x
+    lies = sym (held_at slots items j i held small) ∙ there
 
-pub turn_inside : (slots : Slots) (seen : Set) (j p : ℕ) (now_seen : Set) (x : Item) (k : ℕ) → Turn slots seen j p now_seen x k → k < 512
-turn_inside slots seen j p now_seen x k t =
-    omega (arith, t.leads, (other_differs slots 512 p x j t.ready.standing.settled.ends t.ready.standing.settled.apart t.lies t.here).0)
+    inside : k < 512
+    inside = omega (arith, leads, (other_differs slots 512 (2 * j + i) x j settled.ends settled.apart lies (omega arith)).0)
 
 -- where k is seen in the end, both ends of x are
-turn_ends : (slots : Slots) (seen : Set) (j p : ℕ) (now_seen : Set) (x : Item) (k : ℕ) (then_seen : Set) → Turn slots seen j p now_seen x k → Within now_seen then_seen → then_seen k ≡ true → (y : Item) → Lies slots p y → (then_seen (one y) ≡ true) × (then_seen (two y) ≡ true)
-turn_ends slots seen j p now_seen x k then_seen t grew has y lies =
+turn_ends : (slots : Slots) (seen : Set) (j p : ℕ) (now_seen : Set) (x : Item) (k : ℕ) (grown then_seen : Set) → Turn slots seen j p now_seen x k grown → Within now_seen then_seen → then_seen k ≡ true → (y : Item) → Lies slots p y → (then_seen (one y) ≡ true) × (then_seen (two y) ≡ true)
+turn_ends slots seen j p now_seen x k grown then_seen t grew has y lies =
     let same : x ≡ y = cc (t.lies, lies) in
     let at : k ≡ other y j = t.leads ∙ ap (λ z. other z j) same in
-    other_seen slots p y j then_seen t.ready.standing.settled.ends lies t.here (grew j (t.sofar.spread.grew j t.ready.marked)) (ap then_seen (sym at) ∙ has)
-
--- what was answered where k was put in: whether it is new
-pub is_new : (s : Set) (k : ℕ) (r : Bool) → r ≡ (ltb k 512 && not (s k)) → r ≡ true → s k ≡ false
-is_new s k r e d = grind (arith, nat_tests)
-
-pub is_old : (s : Set) (k : ℕ) (r : Bool) → k < 512 → r ≡ (ltb k 512 && not (s k)) → r ≡ false → s k ≡ true
-is_old s k r l e d = grind (arith, nat_tests)
+    other_seen slots p y j then_seen t.settled.ends lies t.here (grew j (t.sofar.spread.grew j t.marked)) (ap then_seen (sym at) ∙ has)
 
 -- k was seen before: the slot is done
-pub turn_seen : (slots : Slots) (seen : Set) (j p : ℕ) (now_seen : Set) (x : Item) (k : ℕ) (grown : Set) → Turn slots seen j p now_seen x k → grown ≡ also now_seen k → now_seen k ≡ true → Sofar slots seen j (p + 1) grown
-turn_seen slots seen j p now_seen x k grown t e old =
-    let same : now_seen ≡ grown = fun_ext (λ i. grind (arith, nat_tests)) ∙ sym e in
-    subst (Sofar slots seen j (p + 1)) same (sofar_passed slots seen j p now_seen now_seen t.sofar t.sofar.spread (λ _ h. h) (turn_ends slots seen j p now_seen x k now_seen t (λ _ h. h) old))
+pub turn_seen : (slots : Slots) (seen : Set) (j p q : ℕ) (now_seen : Set) (x : Item) (k : ℕ) (grown : Set) → q ≡ p + 1 → Turn slots seen j p now_seen x k grown → now_seen k ≡ true → Sofar slots seen j q grown
+turn_seen slots seen j p q now_seen x k grown next t old =
+    let same : now_seen ≡ grown = fun_ext (λ i. grind (arith, nat_tests)) ∙ sym t.put in
+    subst (Sofar slots seen j q) same (sofar_passed slots seen j p q now_seen now_seen next t.sofar t.sofar.spread (λ _ h. h) (turn_ends slots seen j p now_seen x k grown now_seen t (λ _ h. h) old))
 
 -- k is new: the call for it may be made
 pub turn_ready :
-    (slots : Slots) (seen : Set) (j p : ℕ) (now_seen : Set) (x : Item) (k : ℕ) (grown : Set) → Turn slots seen j p now_seen x k →
-    grown ≡ also now_seen k → now_seen k ≡ false → (unseen grown < unseen seen) × Ready slots grown k
-turn_ready slots seen j p now_seen x k grown t e new = (
-  rw e (unseen_falls seen now_seen k t.sofar.spread.grew (turn_inside slots seen j p now_seen x k t) new),
-  record { standing = t.ready.standing; joint = turn_inside slots seen j p now_seen x k t; marked = rw e (or_right (now_seen k) (eqb k k) (eq-eqb k k refl)) },
+    (slots : Slots) (seen : Set) (j p : ℕ) (now_seen : Set) (x : Item) (k : ℕ) (grown : Set) → Turn slots seen j p now_seen x k grown →
+    now_seen k ≡ false → (unseen grown < unseen seen) × (grown k ≡ true)
+turn_ready slots seen j p now_seen x k grown t new = (
+  rw t.put (unseen_falls seen now_seen k t.sofar.spread.grew t.inside new),
+  rw t.put (or_right (now_seen k) (eqb k k) (eq-eqb k k refl)),
 )
 
 -- no room can be made at k: the slot is done
 pub turn_stuck :
-    (slots after : Slots) (seen : Set) (j p : ℕ) (now_seen : Set) (x : Item) (k : ℕ) (grown then_seen : Set) → Turn slots seen j p now_seen x k →
-    grown ≡ also now_seen k → now_seen k ≡ false → room slots k ≡ 0 → Stuck slots grown k after then_seen → Sofar slots seen j (p + 1) then_seen
-turn_stuck slots after seen j p now_seen x k grown then_seen t e new full stuck =
-    let there : Stuck slots (also now_seen k) k after then_seen = subst (λ s. Stuck slots s k after then_seen) e stuck in
+    (slots after : Slots) (seen : Set) (j p q : ℕ) (now_seen : Set) (x : Item) (k : ℕ) (grown then_seen : Set) → q ≡ p + 1 → Turn slots seen j p now_seen x k grown →
+    now_seen k ≡ false → room slots k ≡ 0 → Stuck slots grown k after then_seen → Sofar slots seen j q then_seen
+turn_stuck slots after seen j p q now_seen x k grown then_seen next t new full stuck =
+    let there : Stuck slots (also now_seen k) k after then_seen = subst (λ s. Stuck slots s k after then_seen) t.put stuck in
     let here : less seen j (p / 2) ≡ false = rw t.here (and_right (seen j) _ (not_from_true _ (eq-eqb j j refl))) in
     let leads : (js : Set) → ClosedBut slots seen j js → js j ≡ true → js k ≡ true =
     λ js closed has. ap js t.leads ∙ other_in x j js (closed p x t.lies (ap js t.here ∙ has) here) in
     let more : Within now_seen then_seen = λ i h. there.spread.grew i (or_left (now_seen i) (eqb i k) h) in
-    sofar_passed slots seen j p now_seen then_seen t.sofar (spread_more slots after seen j k now_seen then_seen t.sofar.spread new leads full there) more
-    (turn_ends slots seen j p now_seen x k then_seen t more (there.spread.grew k (or_right (now_seen k) (eqb k k) (eq-eqb k k refl))))
+    sofar_passed slots seen j p q now_seen then_seen next t.sofar (spread_more slots after seen j k now_seen then_seen t.sofar.spread new leads full there) more
+    (turn_ends slots seen j p now_seen x k grown then_seen t more (there.spread.grew k (or_right (now_seen k) (eqb k k) (eq-eqb k k refl))))

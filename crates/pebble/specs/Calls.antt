@@ -1,5 +1,5 @@
 -- What the calls of a board answer, and what they leave. Assumes nothing: these are definitions.
-use Rattle.std.specs.Prelude.{◌≡◌, ℕ, ◌+◌, ◌*◌, ◌/◌, ◌<◌, ◌≤◌, Bool, true, false, not, List, [], ◌∷◌, ◌++◌, length, is_some, Some, None, Option, ◌==◌, nat_le, slice_set}
+use Rattle.std.specs.Prelude.{◌≡◌, ℕ, ◌+◌, ◌*◌, ◌/◌, ◌<◌, Bool, true, false, not, List, [], ◌∷◌, ◌++◌, length, is_some, Some, None, Option, ◌==◌, nat_le, slice_set}
 use Rattle.std.specs.Option.{option_or}
 use Rattle.std.specs.Bool.{then_some}
 use Rattle.sets.specs.Sets.{first}
@@ -17,12 +17,6 @@ named k (Some x) = name x == k
 -- the slot in which the item of identity k lies, if it does
 abbrev pub where_is : Slots → (k : ℕ) → Option ℕ
 where_is slots k = first 1024 (λ s. named k (slot slots s))
-
--- a whole table, in which all slots from `end` on are empty
-pub record Filled (slots : Slots) (end : ℕ) : Type 0 where
-  pub whole : length slots ≡ 1024
-  pub within : end ≤ 1024
-  pub rest : (s : ℕ) → end ≤ s → slot slots s ≡ None
 
 -- the first empty slot of joint j, if it has one
 abbrev pub first_empty : Slots → (j : ℕ) → Option ℕ

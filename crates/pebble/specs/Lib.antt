@@ -1,4 +1,4 @@
-pub mod Answers
+pub mod Boards
 pub mod Slots
 pub mod Calls
 pub mod Groups

@@ -28,9 +28,8 @@ pub record Linked (slots : Slots) (b : ℕ) (lasts befores : List (Option ℕ)) 
   pub heads : (w : ℕ) → w < 512 → slice_index_or lasts w None ≡ last b (leads slots w)
   pub tails : (t : ℕ) (x : Item) → t < b → Lies slots t x → slice_index_or befores t None ≡ last t (leads slots (other x (t / 2)))
 
--- what is asked before a search: every slot with an item is linked, and the joint is one of the table
+-- what is asked before a search: every slot is linked, and the joint is one of the table
 pub record Searchable (slots : Slots) (lasts befores : List (Option ℕ)) (j : ℕ) : Type 0 where
-  pub inside : (t : ℕ) (x : Item) → Lies slots t x → t < 1024
   pub linked : Linked slots 1024 lasts befores
   pub joint : j < 512
 

@@ -1,28 +1,20 @@
 -- What moving items on from joint to joint does, and what it leaves where it fails. Assumes nothing: these are definitions.
-use Rattle.std.specs.Prelude.{◌≡◌, ℕ, ◌+◌, ◌/◌, ◌<◌, ◌≤◌, max, true, false, length, Some, None, Ok, Err, Option, Result, ◌≢◌}
+use Rattle.std.specs.Prelude.{◌≡◌, ℕ, ◌+◌, ◌/◌, ◌<◌, ◌≤◌, max, true, false, Some, None, Ok, Err, Option, Result, ◌≢◌}
 use Rattle.sets.specs.Sets.{Set, Within}
 use Rattle.sets.specs.Words.{members}
 use Rattle.sets.specs.declared.joint_set.JointSet.{JointSet}
 use Rattle.pebble.specs.declared.item.Item.{Item}
-use Rattle.pebble.specs.declared.outcome.Gathering.{Gathering}
-use Rattle.pebble.specs.declared.outcome.Gathering.TheVariants.{Enough, Short}
-use Rattle.pebble.specs.declared.outcome.Room.{Room}
-use Rattle.pebble.specs.declared.outcome.Room.TheVariants.{Made, Stuck as StuckAt}
+use Rattle.pebble.specs.declared.outcome.Short.{Short}
+use Rattle.pebble.specs.declared.outcome.Stuck.{Stuck as StuckAt}
 use Rattle.pebble.specs.Groups.{Reached}
-use Rattle.pebble.specs.Slots.{Slots, slot, Lies, SameItems, Settled, ClosedBut, one, two, room}
+use Rattle.pebble.specs.Slots.{Slots, slot, Lies, SameItems, ClosedBut, one, two, room}
 
--- the whole table of a board, for 512 joints, on which items lie as they should
-pub record Standing (slots : Slots) : Type 0 where
-  pub whole : length slots ≡ 1024
-  pub settled : Settled 512 slots
-
--- room was made: slot s of joint j is empty now, exactly the same items are placed, each in one slot at one of its ends, and the slots of
--- joints that had been seen are as they were, but for s
+-- room was made: slot s of joint j is empty now, exactly the same items are placed, and the slots of joints that had been seen are as they were,
+-- but for s
 pub record Moved (before : Slots) (seen : Set) (j : ℕ) (s : ℕ) (after : Slots) : Type 0 where
   pub here : s / 2 ≡ j
   pub empty : slot after s ≡ None
   pub same : SameItems before after
-  pub standing : Standing after
   pub kept : (t : ℕ) → seen (t / 2) ≡ true → (t ≢ s) → slot after t ≡ slot before t
 
 -- the joints that are seen only grew. Each that is newly seen is full, what is given to it has both ends seen, and it is reached from j along
@@ -38,12 +30,6 @@ pub record Stuck (before : Slots) (seen : Set) (j : ℕ) (after : Slots) (now_se
   pub still : after ≡ before
   pub spread : Spread before seen j now_seen
   pub from : (s : ℕ) (x : Item) → Lies before s x → s / 2 ≡ j → (now_seen (one x) ≡ true) × (now_seen (two x) ≡ true)
-
--- what is asked before an item of joint j is moved on: j is marked as seen
-pub record Ready (slots : Slots) (seen : Set) (j : ℕ) : Type 0 where
-  pub standing : Standing slots
-  pub joint : j < 512
-  pub marked : seen j ≡ true
 
 -- one of the two items of joint j, which has been seen, is moved on to its other end: the slot that it leaves, or none
 abbrev pub MovedOn : (before : Slots) (seen : Set) (j : ℕ) → Option ℕ → (after : Slots) (now_seen : Set) → Type 0
@@ -71,14 +57,13 @@ pub record Roomless (before : Slots) (kept : Set) (j : ℕ) (after : Slots) (see
   pub spread : Spread before kept j seen
 
 -- what making room at joint j comes to
-abbrev pub RoomSays : (before : Slots) (kept : Set) (j : ℕ) → Room → (after : Slots) → Type 0
-RoomSays before kept j Made after = Roomy before kept j after
-RoomSays before kept j (StuckAt seen) after = Roomless before kept j after (members seen)
+abbrev pub RoomSays : (before : Slots) (kept : Set) (j : ℕ) → Result (Unit {0}) StuckAt → (after : Slots) → Type 0
+RoomSays before kept j (Ok _) after = Roomy before kept j after
+RoomSays before kept j (Err stuck) after = Roomless before kept j after (members stuck.seen)
 
 -- one more slot is empty at u and v together, or none can be
 pub record Emptied (before : Slots) (u v : ℕ) (after : Slots) : Type 0 where
   pub same : SameItems before after
-  pub standing : Standing after
   pub more : room after u + room after v ≡ room before u + room before v + 1
 
 abbrev pub EmptiedOne : (before : Slots) (u v : ℕ) → Result (Unit {0}) JointSet → (after : Slots) → Type 0
@@ -99,13 +84,12 @@ pub record FellShort (n : ℕ) (before : Slots) (u v wanted empty : ℕ) (group 
   pub group_is : Reached n after u v group
 
 -- what gathering at u and v comes to on a board of n joints
-abbrev pub GatherSays : (n : ℕ) (before : Slots) (u v wanted : ℕ) → Gathering → (after : Slots) → Type 0
-GatherSays n before u v wanted Enough after = Gathered before u v wanted after
-GatherSays n before u v wanted (Short empty reached) after = FellShort n before u v wanted empty (members reached) after
+abbrev pub GatherSays : (n : ℕ) (before : Slots) (u v wanted : ℕ) → Result (Unit {0}) Short → (after : Slots) → Type 0
+GatherSays n before u v wanted (Ok _) after = Gathered before u v wanted after
+GatherSays n before u v wanted (Err short) after = FellShort n before u v wanted short.empty (members short.reached) after
 
--- what is asked before slots are gathered at u and v
-pub record TwoJoints (slots : Slots) (u v : ℕ) : Type 0 where
-  pub standing : Standing slots
+-- what is asked before slots are gathered at u and v: they are two of 512 joints
+pub record TwoJoints (u v : ℕ) : Type 0 where
   pub u_inside : u < 512
   pub v_inside : v < 512
   pub differ : u ≡ v → ⊥

@@ -10,4 +10,4 @@ pub mod outcome;
 pub use board::Board;
 pub use fault::Fault;
 pub use item::Item;
-pub use outcome::{Gathering, Room};
+pub use outcome::{Short, Stuck};

@@ -13,7 +13,7 @@ pub const CAPACITY: u16 = 512;
 // Joint j is bit j % 64 of word j / 64.
 const WORDS: usize = 8;
 
-// A set of joints below 512.
+// A set of joints below 512. Its words are a fixed table, since nothing is allocated.
 #[derive(Clone, Copy, PartialEq, Eq, Debug)]
 pub struct JointSet {
     words: [u64; WORDS],
@@ -106,6 +106,7 @@ impl JointSet {
     pub fn is_subset(&self, other: &JointSet) -> bool
         ensures { Decides result (Within (members self.now) (members other.now)) }
     {
+        // A chain with `all` was tried, and its proof did not close.
         for (a, b) in self.words.iter().zip(&other.words) {
             if a | b != *b {
                 return false;
@@ -118,6 +119,7 @@ impl JointSet {
     pub fn first(&self) -> Option<JointId>
         ensures { option_map (λ j. j.0) result ≡ first 512 (members self.now) }
     {
+        // A chain with `position` was tried: no proof file could cite what it finds.
         for (k, word) in self.words.iter().enumerate() {
             if *word != 0 {
                 return Some(JointId(64 * k as u16 + word.trailing_zeros() as u16));
@@ -131,6 +133,7 @@ impl JointSet {
         ensures { result ≡ count 512 (members self.now) }
     {
         let mut n: u64 = 0;
+        // A chain with `sum` was tried, and it could not be proved that the sum fits.
         for word in &self.words {
             n += word.count_ones() as u64;
         }

@@ -89,9 +89,7 @@ fn numbers_and_places(rt: HostRuntime) {
 
 #[test]
 fn ends_of_bars(rt: HostRuntime) -> Result<(), Fail> {
-    let Ok(frame) = Frame::new(3, &[0, 1, 2, 1]) else {
-        return Err(Fail::new("refused"));
-    };
+    let frame = Frame::new(3, &[0, 1, 2, 1])?;
     assert_eq!(rt; frame.joint_count(), 3);
     assert_eq!(rt; frame.bar_count(), 2);
     let ends = Ends {
@@ -106,12 +104,8 @@ fn ends_of_bars(rt: HostRuntime) -> Result<(), Fail> {
 
 #[test]
 fn marks_of_bars(rt: HostRuntime) -> Result<(), Fail> {
-    let Ok(frame) = Frame::new(4, &[0, 1, 1, 2, 2, 3, 3, 0]) else {
-        return Err(Fail::new("refused"));
-    };
-    let Ok(set) = BarSet::new(&frame, &[1, 0, 1, 1]) else {
-        return Err(Fail::new("refused"));
-    };
+    let frame = Frame::new(4, &[0, 1, 1, 2, 2, 3, 3, 0])?;
+    let set = BarSet::new(&frame, &[1, 0, 1, 1])?;
     assert!(rt; set.contains(BarId(0)) && !set.contains(BarId(1)) && !set.contains(BarId(4)));
     assert_eq!(rt; set.len(), 3);
     assert_eq!(rt; set.among(&frame, &JointSet::below(3)), 1);

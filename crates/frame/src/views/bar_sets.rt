@@ -47,6 +47,7 @@ impl<'a> BarSet<'a> {
         ensures { result ≡ induced (frame_of frame.now) (members joints.now) (set_of self.now) }
     {
         let mut total: usize = 0;
+        // A chain of iterators over the numbers was tried: its count could not be proved in the words of sets.
         for k in 0..frame.bar_count() as u32 {
             if self.has_among(frame, joints, BarId(k)) {
                 total += 1;

@@ -56,10 +56,8 @@ impl<'a> Frame<'a> {
     pub fn is_among(&self, bar: BarId, joints: &JointSet) -> bool
         ensures { result ≡ (nat_lt bar.0 (size (frame_of self.now)) && among (frame_of self.now) (members joints.now) all bar.0) }
     {
-        match self.ends(bar) {
-            Some(ends) => joints.contains_both(ends),
-            None => false,
-        }
+        self.ends(bar)
+            .is_some_and(|ends| joints.contains_both(ends))
     }
 }
 
@@ -87,6 +85,7 @@ fn judge_numbers(bars: &[u16]) -> Result<(), Refusal>
 fn judge_ends(joints: u64, bars: &[u16]) -> Result<(), Refusal>
     ensures { Judged result (ends_row joints bars.now) }
 {
+    // A chain with `position` was tried: no proof file could cite what it finds.
     for (k, joint) in bars.iter().enumerate() {
         if *joint as u64 >= joints {
             return Err(Refusal::JointPast(k));
@@ -101,6 +100,7 @@ fn judge_apart(bars: &[u16]) -> Result<(), Refusal>
     ensures { Judged result (apart_row bars.now) }
 {
     let (pairs, _) = bars.as_chunks::<2>();
+    // A chain with `position` was tried: no proof file could cite what it finds.
     for (k, ends) in pairs.iter().enumerate() {
         if ends[0] == ends[1] {
             return Err(Refusal::EqualEnds(BarId(k as u32)));

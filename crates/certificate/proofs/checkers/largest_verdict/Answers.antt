@@ -1,9 +1,7 @@
-use Rattle.std.proofs.Common.{◌≡◌, None, ap, ◌∙◌, subst, rules}
-use Rattle.sets.specs.Sets.{count, first}
-use Rattle.frame.specs.Frame.{size}
+use Rattle.std.proofs.Common.{ap, ◌∙◌, subst}
+use Rattle.sets.specs.Sets.{count}
 use Rattle.frame.specs.Views.{frame_of, marks_of, set_of}
 use Rattle.certificate.specs.Sheets.{Bounds, sheet_in}
-use Rattle.certificate.specs.Verdicts.{outside}
 use Rattle.certificate.proofs.Together.{lies_in, largest, other_bound}
 use Rattle.certificate.proofs.checkers.largest_verdict.Goals as goal
 
@@ -12,8 +10,7 @@ returns-in-Err c =
     let f = frame_of c.args.frame.now in
     let bars = set_of c.args.set.now in
     let part = set_of c.args.part.now in
-    let none : None ≡ first (size f) (outside bars part) = search rules in
-    (lies_in f bars part none, rw c.requires.list at c.in-Err.ensures)
+    (lies_in f bars part c.in_default.ensures, rw c.requires.list at c.in-Err.ensures)
 
 pub returns-then-bound-size : goal.returns-then-bound-size
 returns-then-bound-size c =
@@ -21,8 +18,7 @@ returns-then-bound-size c =
     let bars = set_of c.args.set.now in
     let part = set_of c.args.part.now in
     let s = sheet_in f c.args.sheet.now.groups.now (marks_of c.args.sheet.now.alone) in
-    let none : None ≡ first (size f) (outside bars part) = search rules in
-    let lies = lies_in f bars part none in
+    let lies = lies_in f bars part c.in_default.ensures in
     let shown = rw c.requires.list at c.in_default-shows_free.ensures in
     let bound = rw c.requires.sheet at c.in-Bound.ensures in
     let counted = c.len-size.ensures ∙ ap (λ n. count n part) c.requires.marks in
@@ -33,16 +29,14 @@ returns-else-bound-size c =
     let f = frame_of c.args.frame.now in
     let bars = set_of c.args.set.now in
     let part = set_of c.args.part.now in
-    let none : None ≡ first (size f) (outside bars part) = search rules in
     let shown = rw c.requires.list at c.in_default-shows_free.ensures in
     let counted = c.len-size.ensures ∙ ap (λ n. count n part) c.requires.marks in
-    (lies_in f bars part none, shown.0, rw c.requires.sheet at c.in-Bound.ensures, other_bound c.in-Bound.bound _ c.len-size.result c.if-bound-size.false counted)
+    (lies_in f bars part c.in_default.ensures, shown.0, rw c.requires.sheet at c.in-Bound.ensures, other_bound c.in-Bound.bound _ c.len-size.result c.if-bound-size.false counted)
 
 pub returns-in_default-shown : goal.returns-in_default-shown
 returns-in_default-shown c =
     let f = frame_of c.args.frame.now in
     let bars = set_of c.args.set.now in
     let part = set_of c.args.part.now in
-    let none : None ≡ first (size f) (outside bars part) = search rules in
     let shown = rw c.requires.list at c.in_default-shows_free.ensures in
-    (lies_in f bars part none, shown.0, rw c.requires.sheet at c.bounds-shown.ensures, c.in_default-shown.not-Bound _)
+    (lies_in f bars part c.in_default.ensures, shown.0, rw c.requires.sheet at c.bounds-shown.ensures, c.in_default-shown.not-Bound _)

@@ -1,12 +1,17 @@
-use Rattle.std.proofs.Common.{rules}
-use Rattle.pebble.proofs.Tables.{Facts, pair_stands, facts_written}
+use Rattle.std.proofs.Common.{◌≡◌, ◌≢◌, ◌/◌, ◌<◌, Some, true, ◌∙◌, arith, rules}
+use Rattle.std.proofs.lemmas.List.{length-set}
+use Rattle.pebble.specs.Slots.{is_end, one, two}
+use Rattle.pebble.proofs.Tables.{board_stands, settled_written, settled_wider, end_inside}
 use Rattle.pebble.proofs.board.Board.put.Goals as goal
 
 pub invariant_of-self : goal.invariant_of-self
 invariant_of-self c =
     let b = c.args.self.now in
-    let pair = pair_stands b.joints c.args.item.ends.one.0 c.args.item.ends.two.0 c.in_ok-judge_pair.ensures in
-    let slot = c.in-Some.ensures.says in
-    let before : Facts b.joints b.slots = record { few = b.few; whole = b.whole; ends = b.ends; apart = b.apart; once = b.once } in
-    let after = facts_written b.joints b.slots c.in-Some.slot c.args.item slot.1 slot.0 pair.0 pair.1 pair.2 (search rules) before in
-    record { few = after.few; whole = after.whole; ends = after.ends; apart = after.apart; once = after.once }
+    let item = c.args.item in
+    let s = c.in_ok-slot.slot in
+    let pair : (one item < b.joints) × (two item < b.joints) × (one item ≢ two item) = search rules in
+    let end : is_end item (s / 2) ≡ true = search rules in
+    let inside : s < 1024 = omega (arith, end_inside b.joints item (s / 2) end pair.0 pair.1, b.few) in
+    let after = settled_written b.joints b.table.slots s item b.table.whole inside end pair.0 pair.1 pair.2 (search rules) (board_stands b) in
+    let wider = settled_wider b.joints 512 _ b.few after in
+    ((length-set b.table.slots s (Some item) ∙ b.table.whole, (wider.ends, (wider.apart, (wider.once, tt)))), (b.few, (after.apart, tt)))

@@ -1,12 +1,12 @@
-use Rattle.pebble.proofs.Tables.{Facts, filled, facts_cleared}
+use Rattle.std.proofs.Common.{None, ◌∙◌, arith}
+use Rattle.std.proofs.lemmas.List.{length-set}
+use Rattle.pebble.proofs.Tables.{board_stands, settled_cleared, settled_wider}
 use Rattle.pebble.proofs.board.Board.take.Goals as goal
 
-pub find-requires : goal.find-requires
-find-requires c = filled _ _ c.args.self.now.few c.args.self.now.whole c.args.self.now.ends c.args.self.now.apart
-
-pub invariant_of-self-2 : goal.invariant_of-self-2
-invariant_of-self-2 c =
+pub invariant_of-self : goal.invariant_of-self
+invariant_of-self c =
     let b = c.args.self.now in
-    let before : Facts b.joints b.slots = record { few = b.few; whole = b.whole; ends = b.ends; apart = b.apart; once = b.once } in
-    let after = facts_cleared b.joints b.slots c.in_ok-slot.slot c.in_ok-slot.ensures.below before in
-    record { few = after.few; whole = after.whole; ends = after.ends; apart = after.apart; once = after.once }
+    let slot = c.in_ok-slot.slot in
+    let after = settled_cleared b.joints b.table.slots slot (omega (arith, c.in_ok-slot.ensures.below, b.table.whole)) (board_stands b) in
+    let wider = settled_wider b.joints 512 _ b.few after in
+    ((length-set b.table.slots slot None ∙ b.table.whole, (wider.ends, (wider.apart, (wider.once, tt)))), (b.few, (after.apart, tt)))

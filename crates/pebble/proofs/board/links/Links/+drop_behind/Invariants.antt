@@ -9,7 +9,7 @@ abbrev pub decreases-drop_behind : goal.decreases-drop_behind
 decreases-drop_behind l = count 512 (members l.rest.now)
 
 abbrev pub invariant-loop-next : goal.invariant-loop-next
-invariant-loop-next l = SofarFrom l.self.slots.now l.self.last (members l.initial.rest) l.initial.next l.next (members l.rest)
+invariant-loop-next l = SofarFrom l.self.table.now.slots l.self.last (members l.initial.rest) l.initial.next l.next (members l.rest)
 
 abbrev pub decreases-loop-next : goal.decreases-loop-next
 decreases-loop-next l = past l.next

@@ -1,23 +1,17 @@
 -- The answers for `over`: a slot that is empty, and a slot with an item, which is put before the others that lead to the same joint.
-use Rattle.std.proofs.Common.{arith}
+use Rattle.std.proofs.Common.{replicate, None, refl, arith}
 use Rattle.pebble.proofs.Backwards.{linking_none, linking_empty, linking_item, other_small}
 use Rattle.pebble.proofs.board.links.Links.over.Goals as goal
 use Rattle.pebble.proofs.board.links.Links.over.Goals.{in-Some, in_default}
 
 pub loop-slot-init : goal.loop-slot-init
-loop-slot-init c = linking_none _ _ _ c.no_joints-last.ensures c.no_slots-before.ensures
-
-pub bounds-last-to : goal.bounds-last-to
-bounds-last-to c = other_small _ _ _ _ _ _ c.requires.0 c.requires.1 c.in-Some.is c.other_end-to.ensures
-
-pub bounds-last-to-in-Some : goal.bounds-last-to-in-Some
-bounds-last-to-in-Some c = other_small _ _ _ _ _ _ c.requires.0 c.requires.1 c.in-Some.is c.other_end-to.ensures
+loop-slot-init c = linking_none _ (replicate 512 None) (replicate 1024 None) refl refl
 
 pub loop-slot-preserved : goal.loop-slot-preserved
 loop-slot-preserved c =
-    elim c.match-slots-slot.branch [
+    elim c.match-held.branch [
       | in-Some w ↦
-          let small = other_small _ _ _ _ _ _ c.requires.0 c.requires.1 w.in-Some.is w.other_end-to.ensures in
+          let small = other_small _ _ _ _ _ c.args.table.now.apart w.in-Some.is w.other_end-to.ensures in
           linking_item _ _ _ _ _ _ _ _ c.loop-slot.invariant (omega arith) small w.in-Some.is w.other_end-to.ensures w.last-is w.before-is
       | in_default w ↦ linking_empty _ _ _ _ _ _ c.loop-slot.invariant w.in_default.is w.last-is w.before-is
     ]
