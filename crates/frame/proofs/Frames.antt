@@ -1,15 +1,17 @@
 -- Laws of lent numbers as a frame: its bars, and that it is sound where no row applies.
-use Rattle.std.proofs.Common.{◌≡◌, ℕ, ◌+◌, ◌*◌, ◌/◌, ◌%◌, ◌<◌, Bool, true, false, eqb, ltb, zero, suc, List, length, get_or, drop, ap, sym, ◌∙◌, Some, None, Option, refl, arith}
+use Rattle.std.proofs.Common.{◌≡◌, ℕ, ◌+◌, ◌*◌, ◌/◌, ◌%◌, ◌<◌, Bool, true, false, ◌&&◌, eqb, ltb, zero, suc, List, length, get_or, drop, ap, sym, ◌∙◌, Some, None, Option, refl, arith}
 use Rattle.std.proofs.lemmas.List.FromFn.{length-map-range_with_len, get_or-map-range_with_len}
 use Rattle.std.proofs.lemmas.Bool.{eqb-false, leb-false, ltb-false, or_parts}
 use Rattle.std.proofs.lemmas.List.{get_or-take, get_or-drop}
 use Rattle.std.specs.Simd.{first_chunks}
 use Rattle.std.specs.Option.{option_map}
 use Rattle.std.specs.Bool.{then_some}
-use Rattle.frame.specs.Frame.{no_bar, Allowed}
+use Rattle.sets.specs.Sets.{Set}
+use Rattle.frame.specs.Frame.{no_bar, Allowed, among}
 use Rattle.frame.specs.Lent.{bars_in, frame_in}
 use Rattle.frame.specs.Refusals.{joints_row, numbers_row, ends_row, apart_row, past, equal_ends}
 use Rattle.sets.proofs.First.{none_first}
+use Rattle.frame.proofs.Among.{among_is}
 
 -- half as many bars as numbers
 pub size_in : (xs : List ℕ) → length (bars_in xs) ≡ length xs / 2
@@ -36,6 +38,14 @@ pair_in (suc n) xs (suc k) d lt =
 -- the two ends of bar k are equal, or not, as those of pair k are
 pub equal_in : (n : ℕ) (xs : List ℕ) (k : ℕ) (d : List ℕ) (b : Bool) → k < n → eqb (get_or (get_or (first_chunks 2 n xs) k d) 0 0) (get_or (get_or (first_chunks 2 n xs) k d) 1 0) ≡ b → equal_ends xs k ≡ b
 equal_in n xs k d b lt e = rw (sym (pair_in n xs k d lt).0, sym (pair_in n xs k d lt).1) e
+
+-- and so bar k is among some joints, or not, as the numbers of pair k are joints of these
+pub among_pair :
+    (joints : ℕ) (xs : List ℕ) (pairs : List (List ℕ)) (k : ℕ) (d : List ℕ) (js bs : Set) (b : Bool) → pairs ≡ first_chunks 2 (length xs / 2) xs → k < length xs / 2 →
+    b ≡ (bs k && (js (get_or (get_or pairs k d) 0 0) && js (get_or (get_or pairs k d) 1 0))) → b ≡ among (frame_in joints xs) js bs k
+among_pair joints xs pairs k d js bs b cut lt says =
+    let pair = pair_in (length xs / 2) xs k d lt in
+    (rw (cut, pair.0, pair.1) at says) ∙ among_is (frame_in joints xs) js bs k (record { one = get_or xs (2 * k) 0; two = get_or xs (2 * k + 1) 0 }) (bs k) (sym (bar_in xs k lt)) refl
 
 -- a test that refuses nothing is false, and a search that finds nothing has found nothing
 pub untaken : {X : Type 0} (t : Bool) (x : X) → then_some t x ≡ None → t ≡ false

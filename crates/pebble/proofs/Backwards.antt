@@ -1,5 +1,5 @@
 -- The links backwards from joint to slot, the search along them, and the joints that it leaves.
-use Rattle.std.proofs.Common.{◌≡◌, ℕ, zero, suc, ◌+◌, ◌/◌, ◌<◌, ◌≤◌, min, true, false, cond, eqb, ltb, List, map, length, get_or, set, replicate, Some, None, Option, sym, refl, ap, ◌∙◌, subst, inl, inr, add-one, arith}
+use Rattle.std.proofs.Common.{◌≡◌, ℕ, zero, suc, ◌+◌, ◌-◌, ◌*◌, ◌/◌, ◌<◌, ◌≤◌, min, true, false, cond, eqb, ltb, List, map, length, get_or, set, replicate, Some, None, Option, sym, refl, ap, ◌∙◌, subst, inl, inr, add-zero, add-suc, add-one, arith}
 use mathlib.Core.Path.{fun_ext}
 use Rattle.std.proofs.lemmas.Bool.{cases_Bool, cases_eq, cases_lt, both_ways, eq-eqb, ne_eqb, eqb-true, cond-true, cond-false, ltb-false}
 use Rattle.std.proofs.lemmas.List.{get_or-set_same, get_or-set_other, get_or-replicate, get_or_past, length-set, length-replicate}
@@ -13,11 +13,18 @@ use Rattle.pebble.specs.Slots.{Slots, slot, Lies, AtEnds, Apart, Closed, other, 
 use Rattle.pebble.specs.Groups.{Shut, Unreaching}
 use Rattle.pebble.specs.Links.{outlets, goes, leads, last, Linked, Searchable, Dropped}
 use Rattle.pebble.proofs.Searches.{other_seen, other_in}
+use Rattle.pebble.proofs.Tables.{lies_inside}
 
 -- one number more to look at: the last is that one, or the last so far
 last_more : (n : ℕ) (s : Set) → last (n + 1) s ≡ cond (s n) (Some n) (last n s)
 unfolding last
 last_more n s = rw (add-one n) refl
+
+-- where nothing past n is in the set, the last below n is the last below any more
+last_longer : (n m : ℕ) (s : Set) → ((i : ℕ) → n ≤ i → s i ≡ false) → last (n + m) s ≡ last n s
+unfolding last
+last_longer n zero s h = rw (add-zero n) refl
+last_longer n (suc m) s h = rw (add-suc n m) (rw (h (n + m) (omega arith)) (last_longer n m s h))
 
 -- one past a number, and 0 where there is none
 abbrev pub past : Option ℕ → ℕ
@@ -135,8 +142,23 @@ other_inside : (slots : Slots) (n s : ℕ) (x : Item) (j : ℕ) → Apart n slot
 other_inside slots n s x j apart lies = let a = apart s x lies in grind (arith, nat_tests)
 
 -- and so one of the table
-pub other_small : (slots : Slots) (s : ℕ) (x : Item) (j k : ℕ) → Apart 512 slots → Lies slots s x → k ≡ other x j → k < 512
-other_small slots s x j k apart lies e = omega (arith, other_inside slots 512 s x j apart lies)
+pub other_small : (slots : Slots) (n s : ℕ) (x : Item) (j k : ℕ) → n ≤ 512 → Apart n slots → Lies slots s x → k ≡ other x j → k < 512
+other_small slots n s x j k few apart lies e = omega (arith, other_inside slots n s x j apart lies)
+
+-- where the slots of all joints of a board are linked, all slots are: the others are empty
+pub linked_all :
+    (slots : Slots) (n : ℕ) (lasts befores : List (Option ℕ)) → n ≤ 512 → AtEnds slots → Apart n slots → Linked slots (2 * n) lasts befores →
+    Linked slots 1024 lasts befores
+linked_all slots n lasts befores few ends apart h = record { heads = λ w b. h.heads w b ∙ sym (longer w); tails = λ t x b lies. h.tails t x (inside t x lies) lies }
+  where
+    inside : (t : ℕ) (x : Item) → Lies slots t x → t < 2 * n
+    inside t x lies = omega (arith, lies_inside n slots t x ends apart lies)
+
+    longer : (w : ℕ) → last 1024 (leads slots w) ≡ last (2 * n) (leads slots w)
+    longer w =
+        let all : 1024 ≡ 2 * n + (1024 - 2 * n) = omega arith in
+        ap (λ i. last i (leads slots w)) all
+        ∙ last_longer (2 * n) (1024 - 2 * n) (leads slots w) (λ i g. elim (cases_Bool (leads slots w i)) [ inl y ↦ absurd (omega (arith, inside i _ (leads_item slots w i y).1)) | inr o ↦ o ])
 
 -- what a search may count on: every slot is linked, the joint is one of the table, and all items lie in slots of the table
 pub record Searching (slots : Slots) (lasts befores : List (Option ℕ)) (j : ℕ) : Type 0 where
@@ -379,7 +401,7 @@ kept_dropped n slots u v j rest fewer left h small outlet gone behind = record {
         elim (cases_Bool (js j)) [ inl y ↦ absurd (omega (arith, shut.full j small y empty.1 empty.2)) | inr o ↦ o ]
 
 -- all joints have been looked at
-pub kept_all : (n : ℕ) (slots : Slots) (u v j : ℕ) (rest : Set) → AtEnds slots → Apart n slots → j ≡ n → Kept n slots u v j rest → Unreaching n slots u v rest
+pub kept_all : (n : ℕ) (slots : Slots) (u v j : ℕ) (rest : Set) → AtEnds slots → Apart n slots → n ≤ j → Kept n slots u v j rest → Unreaching n slots u v rest
 kept_all n slots u v j rest ends apart all h = record {
   shut = record {
     closed = λ s x lies y. other_seen slots s x (s / 2) rest ends lies refl y (there s x lies y);

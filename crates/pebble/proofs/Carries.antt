@@ -1,7 +1,6 @@
 -- An item that is carried from one slot to another: the same items are placed, and the board stands as it should.
-use Rattle.std.proofs.Common.{◌≡◌, ℕ, ◌+◌, ◌*◌, ◌/◌, ◌<◌, true, false, ◌⊎◌, Some, None, Option, sym, ap, ◌∙◌, subst, inl, inr, arith}
+use Rattle.std.proofs.Common.{◌≡◌, ℕ, ◌+◌, ◌*◌, ◌/◌, ◌<◌, true, false, ◌⊎◌, length, Some, None, Option, sym, ap, ◌∙◌, subst, inl, inr, arith}
 use Rattle.std.proofs.lemmas.Bool.{cases_eq, both_ways, or_left}
-use Rattle.std.specs.List.{SwappedAt}
 use Rattle.sets.specs.Sets.{Set, also, Within}
 use Rattle.pebble.specs.declared.item.Item.{Item}
 use Rattle.pebble.specs.Slots.{Slots, slot, Lies, Placed, SameItems, Settled, is_end, other, room, vacant}
@@ -9,7 +8,8 @@ use Rattle.pebble.specs.Moves.{Moved}
 use Rattle.pebble.proofs.Searches.{Turn, other_differs}
 
 -- item x has been carried from slot p to slot f, which was empty; nothing else has changed
-record Carried (before : Slots) (p f : ℕ) (x : Item) (after : Slots) : Type 0 where
+pub record Carried (before : Slots) (p f : ℕ) (x : Item) (after : Slots) : Type 0 where
+  pub long : length after ≡ length before
   pub was : Lies before p x
   pub left : slot after p ≡ None
   pub free : slot before f ≡ None
@@ -33,7 +33,7 @@ came_from before p f x after c s y lies =
     same p q = cc
 
 -- exactly the same items are placed
-carried_same : (before : Slots) (p f : ℕ) (x : Item) (after : Slots) → Carried before p f x after → SameItems before after
+pub carried_same : (before : Slots) (p f : ℕ) (x : Item) (after : Slots) → Carried before p f x after → SameItems before after
 carried_same before p f x after c y = (there, back)
   where
     there : Placed before y → Placed after y
@@ -49,32 +49,37 @@ carried_same before p f x after c y = (there, back)
     back : Placed after y → Placed before y
     back h = elim (came_from before p f x after c h.0 y h.1) [ inl e ↦ (p, c.was ∙ ap Some (sym e.1)) | inr l ↦ (h.0, l.1) ]
 
--- an item that is carried to one of its ends leaves all items lying as they should
-carried_settled : (n : ℕ) (before : Slots) (p f : ℕ) (x : Item) (after : Slots) → Carried before p f x after → is_end x (f / 2) ≡ true → Settled n before → Settled n after
-carried_settled n before p f x after c end st = record {
-  ends = λ s y lies. elim (from s y lies) [ inl e ↦ ap (λ t. is_end y (t / 2)) e.0 ∙ ap (λ z. is_end z (f / 2)) e.1 ∙ end | inr l ↦ st.ends s y l.1 ];
-  apart = λ s y lies. let h = (carried_same before p f x after c y).1 (s, lies) in st.apart h.0 y h.1;
-  once = λ s t both.
-      let y = both.0 in
-      let z = both.1 in
-      let same = both.4 in
-      elim (from s y both.2) [
-        | inl e ↦ elim (from t z both.3) [
-          | inl d ↦ e.0 ∙ sym d.0
-          | inr l ↦ absurd (l.0 (st.once t p (z, x, l.1, c.was, sym same ∙ ap (λ i. i.bar.0) e.1)))
-        ]
-        | inr k ↦ elim (from t z both.3) [
-          | inl d ↦ absurd (k.0 (st.once s p (y, x, k.1, c.was, same ∙ ap (λ i. i.bar.0) d.1)))
-          | inr l ↦ st.once s t (y, z, k.1, l.1, same)
-        ]
-      ];
-}
+-- an item that is carried to one of its ends leaves all items lying as they should, and the table as long as it was
+pub carried_settled :
+    (n : ℕ) (before : Slots) (p f : ℕ) (x : Item) (after : Slots) → Carried before p f x after → is_end x (f / 2) ≡ true → Settled n before →
+    Settled n after × (length after ≡ length before)
+carried_settled n before p f x after c end st = (
+  record {
+    ends = λ s y lies. elim (from s y lies) [ inl e ↦ ap (λ t. is_end y (t / 2)) e.0 ∙ ap (λ z. is_end z (f / 2)) e.1 ∙ end | inr l ↦ st.ends s y l.1 ];
+    apart = λ s y lies. let h = (carried_same before p f x after c y).1 (s, lies) in st.apart h.0 y h.1;
+    once = λ s t both.
+        let y = both.0 in
+        let z = both.1 in
+        let same = both.4 in
+        elim (from s y both.2) [
+          | inl e ↦ elim (from t z both.3) [
+            | inl d ↦ e.0 ∙ sym d.0
+            | inr l ↦ absurd (l.0 (st.once t p (z, x, l.1, c.was, sym same ∙ ap (λ i. i.bar.0) e.1)))
+          ]
+          | inr k ↦ elim (from t z both.3) [
+            | inl d ↦ absurd (k.0 (st.once s p (y, x, k.1, c.was, same ∙ ap (λ i. i.bar.0) d.1)))
+            | inr l ↦ st.once s t (y, z, k.1, l.1, same)
+          ]
+        ];
+  },
+  c.long,
+)
   where
     from : (s : ℕ) (y : Item) → Lies after s y → ((s ≡ f) × (y ≡ x)) ⊎ ((s ≡ p → ⊥) × Lies before s y)
     from = came_from before p f x after c
 
 -- one slot of joint j has been emptied, and the other is as it was
-room_more :
+pub room_more :
     (before after : Slots) (j p : ℕ) (x : Item) → p / 2 ≡ j → Lies before p x → slot after p ≡ None →
     ((t : ℕ) → t / 2 ≡ j → (t ≡ p → ⊥) → slot after t ≡ slot before t) → room after j ≡ room before j + 1
 room_more before after j p x at was left rest =
@@ -88,9 +93,11 @@ room_more before after j p x at was left rest =
 -- room was made at the other end of the item in slot p of joint j, and the item was carried there: so room was made at j
 pub passed_on :
     (slots between after : Slots) (seen : Set) (j p f : ℕ) (now_seen : Set) (x : Item) (k : ℕ) (grown : Set) → Turn slots seen j p now_seen x k grown →
-    now_seen k ≡ false → Moved slots grown k f between → SwappedAt between after p f →
-    Moved slots seen j p after × (room after j ≡ room slots j + 1) × (Settled 512 between → Settled 512 after)
-passed_on slots between after seen j p f now_seen x k grown turn new made swapped = (
+    now_seen k ≡ false → Moved slots grown k f between →
+    length after ≡ length between → slot after p ≡ slot between f → slot after f ≡ slot between p →
+    ((t : ℕ) → (t ≡ p → ⊥) → (t ≡ f → ⊥) → slot after t ≡ slot between t) →
+    Moved slots seen j p after × (room after j ≡ room slots j + 1) × (Settled 512 between → Settled 512 after × (length after ≡ length between))
+passed_on slots between after seen j p f now_seen x k grown turn new made long out into rest = (
   record {
     here = turn.here;
     empty = carried.left;
@@ -117,7 +124,7 @@ passed_on slots between after seen j p f now_seen x k grown turn new made swappe
     held = moved.kept p (or_left (now_seen (p / 2)) _ (grew (p / 2) (ap seen turn.here ∙ turn.marked))) apart
 
     carried : Carried between p f x after
-    carried = record { was = held ∙ turn.lies; left = swapped.0 None ∙ moved.empty; free = moved.empty; lies = swapped.1 None ∙ held ∙ turn.lies; rest = λ t d g. swapped.2 t None d g }
+    carried = record { long = long; was = held ∙ turn.lies; left = out ∙ moved.empty; free = moved.empty; lies = into ∙ held ∙ turn.lies; rest = rest }
 
     kept : (t : ℕ) → seen (t / 2) ≡ true → (t ≡ p → ⊥) → slot after t ≡ slot slots t
     kept t h d =

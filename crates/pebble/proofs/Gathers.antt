@@ -11,11 +11,11 @@ use Rattle.pebble.specs.Moves.{Moved, Stuck, MovedOn, Roomless, RoomSays, Emptie
 use Rattle.pebble.proofs.Searches.{spread_none, spread_more}
 
 -- what a call answered, by whether it answered a slot
-moved_on_some : (before : Slots) (seen : Set) (j : ℕ) (r : Option ℕ) (after : Slots) (now_seen : Set) → is_some r ≡ true → MovedOn before seen j r after now_seen → (s : ℕ) × Moved before seen j s after × (room after j ≡ room before j + 1)
+pub moved_on_some : (before : Slots) (seen : Set) (j : ℕ) (r : Option ℕ) (after : Slots) (now_seen : Set) → is_some r ≡ true → MovedOn before seen j r after now_seen → (s : ℕ) × Moved before seen j s after × (room after j ≡ room before j + 1)
 moved_on_some before seen j (Some s) after now_seen e h = (s, h.0, h.1)
 moved_on_some before seen j None after now_seen e h = cc
 
-moved_on_none : (before : Slots) (seen : Set) (j : ℕ) (r : Option ℕ) (after : Slots) (now_seen : Set) → is_some r ≡ false → MovedOn before seen j r after now_seen → Stuck before seen j after now_seen
+pub moved_on_none : (before : Slots) (seen : Set) (j : ℕ) (r : Option ℕ) (after : Slots) (now_seen : Set) → is_some r ≡ false → MovedOn before seen j r after now_seen → Stuck before seen j after now_seen
 moved_on_none before seen j (Some s) after now_seen e h = cc
 moved_on_none before seen j None after now_seen e h = h
 
@@ -33,7 +33,7 @@ roomless slots after kept j seen new full stuck = record {
 }
 
 -- a slot of u was emptied, and v was to be kept
-emptied : (slots after : Slots) (seen : Set) (u v s : ℕ) → (u ≡ v → ⊥) → seen v ≡ true → Moved slots seen u s after → room after u ≡ room slots u + 1 → Emptied slots u v after
+pub emptied : (slots after : Slots) (seen : Set) (u v s : ℕ) → (u ≡ v → ⊥) → seen v ≡ true → Moved slots seen u s after → room after u ≡ room slots u + 1 → Emptied slots u v after
 emptied slots after seen u v s differ has moved more = record {
   same = moved.same;
   more = omega (arith, ap₂ (λ (a b : Option Item). vacant a + vacant b) (kept (2 * v) (omega arith)) (kept (2 * v + 1) (omega arith)));
@@ -107,7 +107,7 @@ pub apart_moved : (n : ℕ) (before after : Slots) → SameItems before after �
 apart_moved n before after same apart s x lies = let h = (same x).1 (s, lies) in apart h.0 x h.1
 
 -- nothing moved, so the same items are placed
-same_still : (before after : Slots) → after ≡ before → SameItems before after
+pub same_still : (before after : Slots) → after ≡ before → SameItems before after
 same_still before after e x = (λ h. subst (λ l. Placed l x) (sym e) h, λ h. subst (λ l. Placed l x) e h)
 
 pub room_same : (before : Slots) (kept : Set) (j : ℕ) (r : Result (Unit {0}) StuckAt) (after : Slots) → RoomSays before kept j r after → SameItems before after

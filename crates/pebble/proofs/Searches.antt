@@ -99,7 +99,7 @@ pub sofar_all : (slots after : Slots) (seen : Set) (j p : ℕ) (now_seen : Set) 
 sofar_all slots after seen j p now_seen still h all = record { still = still; spread = h.spread; from = λ s x lies at. h.from s x lies at (omega arith) }
 
 -- one joint more is marked: fewer are unseen
-unseen_falls : (seen now_seen : Set) (k : ℕ) → Within seen now_seen → k < 512 → now_seen k ≡ false → unseen (also now_seen k) < unseen seen
+pub unseen_falls : (seen now_seen : Set) (k : ℕ) → Within seen now_seen → k < 512 → now_seen k ≡ false → unseen (also now_seen k) < unseen seen
 unseen_falls seen now_seen k grew small new =
     omega (
       arith,

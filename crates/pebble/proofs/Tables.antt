@@ -1,6 +1,6 @@
 -- Tables of slots: the empty one, and one with a slot written.
-use Rattle.std.proofs.Common.{◌≡◌, ℕ, ◌+◌, ◌*◌, ◌/◌, ◌<◌, ◌≤◌, true, not, is_some, count_by, eqb, ◌⊎◌, [], ◌∷◌, length, take, set, Some, None, Option, sym, refl, ap, ◌∙◌, inl, inr, arith}
-use Rattle.std.proofs.lemmas.List.{get_or-replicate, get_or_past, get_or-set_same, get_or-set_other, get_or-take, length-replicate, length-take-le}
+use Rattle.std.proofs.Common.{◌≡◌, ℕ, ◌*◌, ◌/◌, ◌<◌, ◌≤◌, true, eqb, ◌⊎◌, length, take, set, Some, None, Option, sym, refl, ap, ◌∙◌, inl, inr, arith}
+use Rattle.std.proofs.lemmas.List.{get_or-replicate, get_or_past, get_or-set_same, get_or-set_other, get_or-take, length-set, length-replicate, length-take-le}
 use Rattle.std.proofs.lemmas.List.Sums.{passes_at_first, fails_before_first}
 use Rattle.std.specs.List.{position, position_or_len}
 use Rattle.std.proofs.lemmas.Bool.{cond-true, cond-false, lt-ltb, le-ltb, cases_lt, cases_eq, or_cases, eqb-true, eq-eqb, both_ways}
@@ -51,7 +51,7 @@ pub end_inside : (n : ℕ) (x : Item) (j : ℕ) → is_end x j ≡ true → one 
 end_inside n x j end o t = elim (or_cases (eqb (one x) j) (eqb (two x) j) end) [ inl e ↦ omega (arith, eqb-true _ _ e) | inr e ↦ omega (arith, eqb-true _ _ e) ]
 
 -- an item lies at one of the n joints
-lies_inside : (n : ℕ) (slots : Slots) (s : ℕ) (x : Item) → AtEnds slots → Apart n slots → Lies slots s x → s / 2 < n
+pub lies_inside : (n : ℕ) (slots : Slots) (s : ℕ) (x : Item) → AtEnds slots → Apart n slots → Lies slots s x → s / 2 < n
 lies_inside n slots s x ends apart lies =
     let a = apart s x lies in
     end_inside n x (s / 2) (ends s x lies) a.0 a.1
@@ -96,18 +96,22 @@ lies_set slots s o t y lt lies =
     ]
 
 -- a slot is emptied
-pub settled_cleared : (n : ℕ) (slots : Slots) (s : ℕ) → s < length slots → Settled n slots → Settled n (set slots s None)
-settled_cleared n slots s lt f = record {
-  ends = λ t y lies. f.ends t y (was t y lies);
-  apart = λ t y lies. f.apart t y (was t y lies);
-  once = λ t r both. f.once t r (both.0, both.1, was t _ both.2, was r _ both.3, both.4);
-}
+pub settled_cleared :
+    (n : ℕ) (slots : Slots) (s : ℕ) → s < length slots → Settled n slots → Settled n (set slots s None) × (length (set slots s None) ≡ length slots)
+settled_cleared n slots s lt f = (
+  record {
+    ends = λ t y lies. f.ends t y (was t y lies);
+    apart = λ t y lies. f.apart t y (was t y lies);
+    once = λ t r both. f.once t r (both.0, both.1, was t _ both.2, was r _ both.3, both.4);
+  },
+  length-set slots s None,
+)
   where
     was : (t : ℕ) (y : Item) → Lies (set slots s None) t y → Lies slots t y
     was t y lies = elim (lies_set slots s None t y (omega arith) lies) [ inl e ↦ cc e.1 | inr l ↦ l.1 ]
 
 -- an identity that is not found lies in no slot
-absent : (slots : Slots) (k : ℕ) → length slots ≡ 1024 → where_is slots k ≡ None → (s : ℕ) (x : Item) → Lies slots s x → x.bar.0 ≡ k → ⊥
+pub absent : (slots : Slots) (k : ℕ) → length slots ≡ 1024 → where_is slots k ≡ None → (s : ℕ) (x : Item) → Lies slots s x → x.bar.0 ≡ k → ⊥
 absent slots k whole none s x lies is =
     elim (cases_lt s 1024) [
       | inl l ↦ both_ways (named k (slot slots s)) (none_first 1024 _ none s l) (rw (lies, is) (eq-eqb k k refl))
@@ -117,12 +121,15 @@ absent slots k whole none s x lies is =
 -- an item of a new identity is written into an empty slot of one of its ends
 pub settled_written :
     (n : ℕ) (slots : Slots) (s : ℕ) (x : Item) → length slots ≡ 1024 → s < 1024 → is_end x (s / 2) ≡ true → one x < n → two x < n → (one x ≡ two x → ⊥) →
-    where_is slots (name x) ≡ None → Settled n slots → Settled n (set slots s (Some x))
-settled_written n slots s x whole lt end o t differ new f = record {
-  ends = λ r y lies. elim (was r y lies) [ inl e ↦ rw (e.0, e.1) end | inr l ↦ f.ends r y l.1 ];
-  apart = λ r y lies. elim (was r y lies) [ inl e ↦ rw e.1 (o, t, differ) | inr l ↦ f.apart r y l.1 ];
-  once = single;
-}
+    where_is slots (name x) ≡ None → Settled n slots → Settled n (set slots s (Some x)) × (length (set slots s (Some x)) ≡ length slots)
+settled_written n slots s x whole lt end o t differ new f = (
+  record {
+    ends = λ r y lies. elim (was r y lies) [ inl e ↦ rw (e.0, e.1) end | inr l ↦ f.ends r y l.1 ];
+    apart = λ r y lies. elim (was r y lies) [ inl e ↦ rw e.1 (o, t, differ) | inr l ↦ f.apart r y l.1 ];
+    once = single;
+  },
+  length-set slots s (Some x),
+)
   where
     was : (r : ℕ) (y : Item) → Lies (set slots s (Some x)) r y → ((r ≡ s) × (y ≡ x)) ⊎ ((r ≡ s → ⊥) × Lies slots r y)
     was r y lies = elim (lies_set slots s (Some x) r y (omega arith) lies) [ inl e ↦ (let d : y ≡ x = cc e.1 in inl (e.0, d)) | inr l ↦ inr l ]
@@ -136,16 +143,6 @@ settled_written n slots s x whole lt end o t differ new f = record {
           | inl e ↦ elim (was q both.1 both.3) [ inl d ↦ e.0 ∙ sym d.0 | inr l ↦ absurd (lone q both.1 both.0 e.1 (sym both.4) l.1) ]
           | inr k ↦ elim (was q both.1 both.3) [ inl d ↦ absurd (lone r both.0 both.1 d.1 both.4 k.1) | inr l ↦ f.once r q (both.0, both.1, k.1, l.1, both.4) ]
         ]
-
--- how many slots of joint j are empty, counted one by one
-pub room_counted : (slots : Slots) (j : ℕ) → count_by (λ o. not (is_some o)) (slot slots (2 * j) ∷ (slot slots (2 * j + 1) ∷ [])) ≡ room slots j
-room_counted slots j = two (slot slots (2 * j)) (slot slots (2 * j + 1))
-  where
-    two : (a b : Option Item) → count_by (λ o. not (is_some o)) (a ∷ (b ∷ [])) ≡ vacant a + vacant b
-    two None None = refl
-    two None (Some y) = refl
-    two (Some x) None = refl
-    two (Some x) (Some y) = refl
 
 -- a joint with no empty slot is one of the table: past it nothing is taken
 pub full_inside : (slots : Slots) (j : ℕ) → length slots ≡ 1024 → room slots j ≡ 0 → j < 512

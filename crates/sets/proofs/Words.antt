@@ -1,10 +1,10 @@
 -- Laws of the bits of a word, and of sets that lie in words.
-use Rattle.std.proofs.Common.{◌≡◌, ℕ, zero, suc, ◌+◌, ◌-◌, ◌*◌, ◌/◌, ◌%◌, ◌^◌, ◌<◌, ◌≤◌, min, Bool, true, false, cond, not, ◌&&◌, ◌||◌, eqb, ltb, ◌⊎◌, List, length, get_or, set, replicate, Some, None, sym, refl, ap, ◌∙◌, inl, inr, mod-eq_of_lt, pow-suc, div-one, one-add, arith}
+use Rattle.std.proofs.Common.{◌≡◌, ℕ, zero, suc, ◌+◌, ◌-◌, ◌*◌, ◌/◌, ◌%◌, ◌^◌, ◌<◌, ◌≤◌, min, Bool, true, false, cond, not, ◌&&◌, ◌||◌, eqb, ltb, ◌⊎◌, List, length, get_or, set, replicate, Some, None, sym, refl, ap, ◌∙◌, subst, inl, inr, mod-eq_of_lt, pow-suc, div-one, one-add, arith}
 use mathlib.Core.Path.{fun_ext}
 use native.Mathlib.Nat.{zero-div, mod-one}
 use lib.Dec.{eqb-suc-zero, eqb-zero-suc, eqb-suc-suc, leb-suc-suc}
 use lib.Bits.{bit_and, bit_or, bit_xor, and_shr, and_mod, or_shr, or_mod, xor_shr, xor_mod, xor_add_and, or_lt}
-use lib.Count.{ones, ones_in, count_trailing_zeros, under, ones_cat}
+use lib.Count.{ones, ones-le, ones_in, count_trailing_zeros, under, ones_cat}
 use Rattle.std.proofs.lemmas.Nat.{mod_below, and_mask, and_comm, shr-shr, pow_pos, pow_below, one_shl, mod-pow-add}
 use Rattle.std.proofs.lemmas.List.{get_or_past, get_or-set_same, get_or-set_other}
 use Rattle.std.proofs.lemmas.Bool.{cases_eq, cases_lt, ne_eqb, eq-eqb, lt-ltb, le-ltb, or_left, both_ways}
@@ -279,3 +279,10 @@ of_count ws k small =
     count_same 64 _ _ (λ i l. of_word ws k i l) ∙ bits_count 64 (get_or ws k 0) ∙ ap ones (mod-eq_of_lt small) in
     let next : 64 * (k + 1) ≡ 64 * k + 64 = omega arith in
     ap (λ n. count n (bits_of ws)) next ∙ count_plus (64 * k) 64 (bits_of ws) ∙ ap (λ n. count (64 * k) (bits_of ws) + n) word
+
+-- the numbers of one word more are counted
+pub word_counted :
+    (ws : List ℕ) (k n word : ℕ) → word ≡ get_or ws k 0 → word < 2 ^ 64 → (n ≡ count (64 * k) (bits_of ws)) × (n ≤ 64 * k) →
+    (n + ones word ≡ count (64 * (k + 1)) (bits_of ws)) × (n + ones word ≤ 64 * (k + 1))
+word_counted ws k n word is small sofar =
+    (omega (arith, of_count ws k (subst (λ w. w < 2 ^ 64) is small), ap ones is, sofar.0), omega (arith, ones-le 64 word small, sofar.1))

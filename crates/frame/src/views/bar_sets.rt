@@ -1,14 +1,14 @@
 // Sets of bars: how one is made of lent marks, or refused, and how many bars it has.
-ghost use Rattle.std.specs.Prelude.{◌≡◌, ◌&&◌, length, nat_lt};
+ghost use Rattle.std.specs.Prelude.{◌≡◌, ◌&&◌, length};
 ghost use Rattle.sets.specs.Sets.{count};
 ghost use Rattle.sets.specs.Words.{members};
-ghost use Rattle.frame.specs.Frame.{size, among, induced};
+ghost use Rattle.frame.specs.Frame.{induced};
 ghost use Rattle.frame.specs.Views.{frame_of, marks_of, set_of, Marked};
 
 use crate::refusal::{Lent, Refusal};
 use crate::rows::{IN_SET, judge_length, judge_marks};
 use crate::views::{BarSet, Frame};
-use sets::{BarId, JointSet};
+use sets::{BarId, Ends, JointId, JointSet};
 
 impl<'a> BarSet<'a> {
     // The set of the bars of a frame that are marked; or the first row that refuses the marks.
@@ -39,7 +39,14 @@ impl<'a> BarSet<'a> {
     pub fn len(&self) -> usize
         ensures { result ≡ count (length (marks_of self.now)) (set_of self.now) }
     {
-        self.marks.iter().filter(|mark| **mark == IN_SET).count()
+        let mut n: usize = 0;
+        // A chain with `filter` and `count` took twice the time, and with `sum` it was not proved that the sum fits.
+        for mark in self.marks {
+            if *mark == IN_SET {
+                n += 1;
+            }
+        }
+        n
     }
 
     // How many bars of the set are among some joints: both ends are.
@@ -47,19 +54,24 @@ impl<'a> BarSet<'a> {
         ensures { result ≡ induced (frame_of frame.now) (members joints.now) (set_of self.now) }
     {
         let mut total: usize = 0;
-        // A chain of iterators over the numbers was tried: its count could not be proved in the words of sets.
-        for k in 0..frame.bar_count() as u32 {
-            if self.has_among(frame, joints, BarId(k)) {
+        // A chain of iterators was tried: its count could not be proved in the words of sets.
+        let (pairs, _) = frame.bars.as_chunks::<2>();
+        for (k, pair) in pairs.iter().enumerate() {
+            let ends = Ends {
+                one: JointId(pair[0]),
+                two: JointId(pair[1]),
+            };
+            if self.has_among(BarId(k as u32), ends, joints) {
                 total += 1;
             }
         }
         total
     }
 
-    // Whether a bar of the frame is in the set with both its ends among some joints.
-    fn has_among(&self, frame: &Frame<'_>, joints: &JointSet, bar: BarId) -> bool
-        ensures { result ≡ (nat_lt bar.0 (size (frame_of frame.now)) && among (frame_of frame.now) (members joints.now) (set_of self.now) bar.0) }
+    // Whether a bar is in the set with both its ends among some joints.
+    fn has_among(&self, bar: BarId, ends: Ends, joints: &JointSet) -> bool
+        ensures { result ≡ (set_of self.now bar.0 && (members joints.now ends.one.0 && members joints.now ends.two.0)) }
     {
-        self.contains(bar) && frame.is_among(bar, joints)
+        self.contains(bar) && joints.contains_both(ends)
     }
 }

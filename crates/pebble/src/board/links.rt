@@ -23,14 +23,15 @@ struct Links<'a> {
 }
 
 impl<'a> Links<'a> {
-    // The links over the slots of a table.
-    fn over(table: &'a Table) -> Links<'a>
-        ensures same { result.table.now.slots ≡ table.now.slots }
-        ensures linked { Linked table.now.slots 1024 result.last result.before }
+    // The links over the slots of a board. Past the slots of its joints there is nothing to link.
+    fn over(board: &'a Board) -> Links<'a>
+        ensures same { result.table.now.slots ≡ board.now.table.slots }
+        ensures linked { Linked board.now.table.slots 1024 result.last result.before }
     {
+        let table = &board.table;
         let mut last = [None; JOINTS];
         let mut before = [None; SLOTS];
-        for (slot, held) in table.slots.iter().enumerate() {
+        for (slot, held) in table.slots[..2 * board.joints as usize].iter().enumerate() {
             if let Some(item) = held {
                 let to = item.other_end(JointId(slot as u16 / 2)).0 as usize;
                 before[slot] = last[to];
@@ -74,7 +75,7 @@ impl Board {
     pub fn unreaching(&self, u: JointId, v: JointId) -> JointSet
         ensures { Unreaching (joints_of self.now) (slots_of self.now) u.0 v.0 (members result) }
     {
-        let links = Links::over(&self.table);
+        let links = Links::over(self);
         let mut rest = JointSet::below(self.joints);
         for joint in (0..self.joints as u16).map(JointId) {
             if links.is_outlet(joint, u, v) && rest.remove(joint) {

@@ -45,10 +45,8 @@ impl Table {
         ensures value { result ≡ room self.now.slots joint.0 }
         ensures few { result ≤ 2 }
     {
-        self.items_at(joint)
-            .iter()
-            .filter(|slot| slot.is_none())
-            .count() as u64
+        let [first, second] = self.items_at(joint);
+        first.is_none() as u64 + second.is_none() as u64
     }
 
     // The first empty slot of a joint, or none; past the table the first.

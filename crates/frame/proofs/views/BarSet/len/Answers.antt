@@ -1,13 +1,21 @@
-use Rattle.std.proofs.Common.{◌≡◌, ◌==◌, refl, ◌∙◌, rules}
-use Rattle.std.specs.List.{count_by}
-use Rattle.std.proofs.iter.runs.Made.{chains}
-use Rattle.sets.proofs.Lists.{count_by_is}
+use Rattle.std.proofs.Common.{true, false, sym, refl, arith}
+use Rattle.std.proofs.lemmas.Bool.{eq-eqb, ne_eqb}
 use Rattle.frame.specs.Lent.{set_in}
+use Rattle.sets.specs.Sets.{count}
+use Rattle.sets.proofs.Counts.{count_step}
 use Rattle.frame.proofs.views.BarSet.len.Goals as goal
+use Rattle.frame.proofs.views.BarSet.len.Goals.{then-mark-eq-IN_SET, else-mark-eq-IN_SET}
 
-pub returns : goal.returns
+pub loop-mark-init : goal.loop-mark-init
+unfolding count
+loop-mark-init c = (refl, omega arith)
+
+pub loop-mark-preserved : goal.loop-mark-preserved
 unfolding set_in
-returns c =
-    let marks = c.args.self.now.marks.now in
-    let counted : c.count.result ≡ count_by (λ mark. mark == 1) marks = search (rules, chains) in
-    counted ∙ count_by_is (λ mark. mark == 1) marks 0 (set_in marks) (λ k l. refl)
+loop-mark-preserved c =
+    elim c.if-mark-eq-IN_SET.branch [
+      | then-mark-eq-IN_SET w ↦
+          (omega (arith, w.n-is, count_step c.loop-mark.mark-index (set_in c.args.self.now.marks.now) true (sym (eq-eqb _ 1 w.if-mark-eq-IN_SET.true))), omega (arith, w.n-is))
+      | else-mark-eq-IN_SET w ↦
+          (omega (arith, w.n-is, count_step c.loop-mark.mark-index (set_in c.args.self.now.marks.now) false (sym (ne_eqb _ 1 w.if-mark-eq-IN_SET.false))), omega (arith, w.n-is))
+    ]

@@ -1,5 +1,4 @@
-use Rattle.std.proofs.Common.{◌≡◌, ◌≢◌, ◌/◌, ◌<◌, Some, true, ◌∙◌, arith, rules}
-use Rattle.std.proofs.lemmas.List.{length-set}
+use Rattle.std.proofs.Common.{◌≡◌, ◌≢◌, ◌/◌, ◌<◌, true, ◌∙◌, arith, rules}
 use Rattle.pebble.specs.Slots.{is_end, one, two}
 use Rattle.pebble.proofs.Tables.{board_stands, settled_written, settled_wider, end_inside}
 use Rattle.pebble.proofs.board.Board.put.Goals as goal
@@ -13,5 +12,5 @@ invariant_of-self c =
     let end : is_end item (s / 2) ≡ true = search rules in
     let inside : s < 1024 = omega (arith, end_inside b.joints item (s / 2) end pair.0 pair.1, b.few) in
     let after = settled_written b.joints b.table.slots s item b.table.whole inside end pair.0 pair.1 pair.2 (search rules) (board_stands b) in
-    let wider = settled_wider b.joints 512 _ b.few after in
-    ((length-set b.table.slots s (Some item) ∙ b.table.whole, (wider.ends, (wider.apart, (wider.once, tt)))), (b.few, (after.apart, tt)))
+    let wider = settled_wider b.joints 512 _ b.few after.0 in
+    ((after.1 ∙ b.table.whole, (wider.ends, (wider.apart, (wider.once, tt)))), (b.few, (after.0.apart, tt)))

@@ -1,5 +1,6 @@
 -- The answers for `unreaching`: one joint more is looked at, and at the end the joints that are left are the group that is asked for.
-use Rattle.std.proofs.Common.{◌+◌, length, sym, ◌∙◌, subst, arith, rules}
+use Rattle.std.proofs.Common.{◌≡◌, ◌+◌, length, sym, ◌∙◌, subst, arith, rules}
+use Rattle.std.proofs.Math.Nat.{le_of_eq}
 use Rattle.std.proofs.lemmas.Iterator.{YieldsList-from_map_by, YieldsList-from_range}
 use Rattle.std.proofs.lemmas.Iterator.Consumers.{YieldsList-turn, YieldsList-end}
 use Rattle.std.proofs.lemmas.List.{length_push}
@@ -40,5 +41,6 @@ returns c =
     let n = board.joints in
     let road = YieldsList-from_map_by _ (λ j. j.0) (λ k. k) (YieldsList-from_range 0 n n (search rules) (omega arith)) c.map-joint-items.ensures.closure (λ x r q k. search rules) in
     let all = (YieldsList-end road c.loop-joint.yielded _ c.loop-joint.yielded_by _ _ c.in-None.is c.next.ensures.steps).1 in
-    kept_all _ _ _ _ _ _ board.table.ends board.apart (all ∙ length-map-range_with_len (λ k. k) 0 n)
+    let counted : length c.loop-joint.yielded ≡ n = all ∙ length-map-range_with_len (λ k. k) 0 n in
+    kept_all _ _ _ _ _ _ board.table.ends board.apart (le_of_eq (sym counted))
     (subst (λ (s : Slots). Kept n s c.args.u.0 c.args.v.0 (length c.loop-joint.yielded) (members c.loop-joint.rest)) c.over-links.ensures.same c.loop-joint.invariant)

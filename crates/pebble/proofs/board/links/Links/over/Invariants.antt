@@ -3,4 +3,4 @@ use Rattle.pebble.proofs.Backwards.{Linking}
 use Rattle.pebble.proofs.board.links.Links.over.Given as goal
 
 abbrev pub invariant-loop-slot : goal.invariant-loop-slot
-invariant-loop-slot l = Linking l.table.slots l.slot l.last l.before
+invariant-loop-slot l = Linking l.board.table.slots l.slot l.last l.before

@@ -1,4 +1,4 @@
-use Rattle.std.proofs.Common.{◌≡◌, ◌+◌, ◌*◌, ◌<◌, ◌∙◌, subst, arith, rules}
+use Rattle.std.proofs.Common.{◌≡◌, ◌+◌, ◌*◌, ◌<◌, None, ◌∙◌, subst, arith, rules}
 use Rattle.sets.specs.Words.{members}
 use Rattle.pebble.specs.Slots.{room}
 use Rattle.pebble.specs.Moves.{Moved, Stuck}
@@ -20,15 +20,15 @@ pub move_on-invariant_of-self : goal.move_on-invariant_of-self
 move_on-invariant_of-self t c =
     let turn = turn_at _ _ _ _ _ _ _ _ _ _ (stands c.args.self.now) c.requires c.loop-k.invariant c.items_at.ensures c.loop-k-test.true c.in-Some.is c.other_end-other.ensures c.insert.ensures.after in
     let found = subst (λ l. Moved l (members c.insert.new.self) c.other_end-other.result.0 c.in-Some-find_room.free c.find_room.new.self.slots) c.loop-k.invariant.0 c.in-Some-find_room.ensures in
-    let passed = passed_on _ _ c.swap.new.self _ _ _ _ _ _ _ _ turn (search rules) found c.swap.ensures.by_index in
+    let passed = passed_on _ _ c.swap.new.self _ _ _ _ _ _ _ _ turn (search rules) found c.swap.ensures.len (c.swap.ensures.by_index.0 None) (c.swap.ensures.by_index.1 None) (λ s d g. c.swap.ensures.by_index.2 s None d g) in
     let after = passed.2 (stands c.find_room.new.self) in
-    record { whole = c.swap.ensures.len ∙ c.find_room.new.self.whole; ends = after.ends; apart = after.apart; once = after.once }
+    record { whole = after.1 ∙ c.find_room.new.self.whole; ends = after.0.ends; apart = after.0.apart; once = after.0.once }
 
 pub move_on-returns-in-Some-find_room : goal.move_on-returns-in-Some-find_room
 move_on-returns-in-Some-find_room t c =
     let turn = turn_at _ _ _ _ _ _ _ _ _ _ (stands c.args.self.now) c.requires c.loop-k.invariant c.items_at.ensures c.loop-k-test.true c.in-Some.is c.other_end-other.ensures c.insert.ensures.after in
     let found = subst (λ l. Moved l (members c.insert.new.self) c.other_end-other.result.0 c.in-Some-find_room.free c.find_room.new.self.slots) c.loop-k.invariant.0 c.in-Some-find_room.ensures in
-    let passed = passed_on _ _ c.swap.new.self _ _ _ _ _ _ _ _ turn (search rules) found c.swap.ensures.by_index in
+    let passed = passed_on _ _ c.swap.new.self _ _ _ _ _ _ _ _ turn (search rules) found c.swap.ensures.len (c.swap.ensures.by_index.0 None) (c.swap.ensures.by_index.1 None) (λ s d g. c.swap.ensures.by_index.2 s None d g) in
     (passed.0, passed.1)
 
 pub move_on-loop-k-preserved-in_default : goal.move_on-loop-k-preserved-in_default
