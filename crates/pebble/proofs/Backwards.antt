@@ -145,21 +145,6 @@ other_inside slots n s x j apart lies = let a = apart s x lies in grind (arith, 
 pub other_small : (slots : Slots) (n s : ℕ) (x : Item) (j k : ℕ) → n ≤ 512 → Apart n slots → Lies slots s x → k ≡ other x j → k < 512
 other_small slots n s x j k few apart lies e = omega (arith, other_inside slots n s x j apart lies)
 
--- where the slots of all joints of a board are linked, all slots are: the others are empty
-pub linked_all :
-    (slots : Slots) (n : ℕ) (lasts befores : List (Option ℕ)) → n ≤ 512 → AtEnds slots → Apart n slots → Linked slots (2 * n) lasts befores →
-    Linked slots 1024 lasts befores
-linked_all slots n lasts befores few ends apart h = record { heads = λ w b. h.heads w b ∙ sym (longer w); tails = λ t x b lies. h.tails t x (inside t x lies) lies }
-  where
-    inside : (t : ℕ) (x : Item) → Lies slots t x → t < 2 * n
-    inside t x lies = omega (arith, lies_inside n slots t x ends apart lies)
-
-    longer : (w : ℕ) → last 1024 (leads slots w) ≡ last (2 * n) (leads slots w)
-    longer w =
-        let all : 1024 ≡ 2 * n + (1024 - 2 * n) = omega arith in
-        ap (λ i. last i (leads slots w)) all
-        ∙ last_longer (2 * n) (1024 - 2 * n) (leads slots w) (λ i g. elim (cases_Bool (leads slots w i)) [ inl y ↦ absurd (omega (arith, inside i _ (leads_item slots w i y).1)) | inr o ↦ o ])
-
 -- what a search may count on: every slot is linked, the joint is one of the table, and all items lie in slots of the table
 pub record Searching (slots : Slots) (lasts befores : List (Option ℕ)) (j : ℕ) : Type 0 where
   pub inside : (t : ℕ) (x : Item) → Lies slots t x → t < 1024
@@ -171,6 +156,25 @@ searching slots lasts befores j whole h = record { inside = inside; linked = h.l
   where
     inside : (t : ℕ) (x : Item) → Lies slots t x → t < 1024
     inside t x lies = elim (cases_lt t 1024) [ inl l ↦ l | inr g ↦ cc (lies, get_or_past slots t None (omega arith)) ]
+
+-- where the slots of all joints of a board are linked, all slots are: the others are empty
+pub linked_all :
+    (slots : Slots) (n : ℕ) (lasts befores : List (Option ℕ)) (j : ℕ) → n ≤ 512 → AtEnds slots → Apart n slots → Linked slots (2 * n) lasts befores → j < 512 →
+    Searching slots lasts befores j
+linked_all slots n lasts befores j few ends apart h small = record {
+  inside = λ t x lies. omega (arith, inside t x lies);
+  linked = record { heads = λ w b. h.heads w b ∙ sym (longer w); tails = λ t x b lies. h.tails t x (inside t x lies) lies };
+  joint = small;
+}
+  where
+    inside : (t : ℕ) (x : Item) → Lies slots t x → t < 2 * n
+    inside t x lies = omega (arith, lies_inside n slots t x ends apart lies)
+
+    longer : (w : ℕ) → last 1024 (leads slots w) ≡ last (2 * n) (leads slots w)
+    longer w =
+        let all : 1024 ≡ 2 * n + (1024 - 2 * n) = omega arith in
+        ap (λ i. last i (leads slots w)) all
+        ∙ last_longer (2 * n) (1024 - 2 * n) (leads slots w) (λ i g. elim (cases_Bool (leads slots w i)) [ inl y ↦ absurd (omega (arith, inside i _ (leads_item slots w i y).1)) | inr o ↦ o ])
 
 -- what the search knows at the start of a turn: the slot that comes next leads to joint j, and the slots past it have been looked at
 pub record Sofar (slots : Slots) (rest : Set) (j : ℕ) (next : Option ℕ) (left : Set) : Type 0 where

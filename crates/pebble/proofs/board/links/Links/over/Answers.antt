@@ -31,4 +31,4 @@ returns-clause-linked c =
     let n = board.joints in
     let long : length (take (2 * n) board.table.slots) ≡ 2 * n = length-take-le (2 * n) board.table.slots (omega (arith, board.few, board.table.whole)) in
     let all : c.loop-slot.slot ≡ 2 * n = omega (arith, long, c.loop-slot-test.false, c.loop-slot.auto.slot-end) in
-    linked_all board.table.slots n _ _ board.few board.table.ends board.apart (subst (λ p. Linked board.table.slots p c.loop-slot.last c.loop-slot.before) all c.loop-slot.invariant.linked)
+    (linked_all board.table.slots n _ _ 0 board.few board.table.ends board.apart (subst (λ p. Linked board.table.slots p c.loop-slot.last c.loop-slot.before) all c.loop-slot.invariant.linked) (omega arith)).linked
