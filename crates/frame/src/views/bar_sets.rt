@@ -54,7 +54,7 @@ impl<'a> BarSet<'a> {
         ensures { result ≡ induced (frame_of frame.now) (members joints.now) (set_of self.now) }
     {
         let mut total: usize = 0;
-        // A chain of iterators was tried: its count could not be proved in the words of sets.
+        // A chain of iterators over the numbers of bars was tried: its count could not be proved in the words of sets.
         let (pairs, _) = frame.bars.as_chunks::<2>();
         for (k, pair) in pairs.iter().enumerate() {
             let ends = Ends {
